@@ -1,0 +1,5 @@
+pub mod Stores
+pub mod Words
+pub mod Ops
+pub mod Rooms
+pub mod Refusals
