@@ -1,0 +1,3 @@
+pub mod Ast
+pub mod Tree
+pub mod Node

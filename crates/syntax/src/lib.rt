@@ -1,0 +1,3 @@
+//! Tokens read as a tree, and a tree written back.
+
+pub mod node;
