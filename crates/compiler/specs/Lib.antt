@@ -1,0 +1,5 @@
+pub mod Instr
+pub mod Machine
+pub mod Code
+pub mod Right
+pub mod Compile
