@@ -1,0 +1,8 @@
+pub mod Spelling
+pub mod Cutting
+pub mod Names
+pub mod Ends
+pub mod PairLaws
+pub mod Passes
+pub mod Blanks
+pub mod Places

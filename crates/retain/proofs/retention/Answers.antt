@@ -1,0 +1,5 @@
+use Rattle.retain.proofs.retention.Needs as need
+use Rattle.retain.proofs.Holds.{retained, ruled}
+
+pub returns : need.returns
+returns c = record { retained = retained; ruled = ruled }

@@ -1,0 +1,4 @@
+pub mod Device
+pub mod Story
+pub mod History
+pub mod Entry

@@ -1,0 +1,4 @@
+pub mod Bounds
+pub mod Stacks
+pub mod State
+pub mod Outcomes
