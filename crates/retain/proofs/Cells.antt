@@ -1,24 +1,23 @@
 -- From slices to stores: a slice's `set` is a store's `update`, and one write of a list of writes.
 use mathlib.Core.Path.{_≡_, refl, sym, _∙_, ap, ap₂, subst}
-use mathlib.Core.Bool.{Bool, true, false, cond, not}
-use mathlib.Core.List.{List, [], _∷_, _++_, append-assoc, append-nil}
+use mathlib.Core.Bool.{Bool, true, false, cond}
+use mathlib.Core.List.{List, [], _∷_, _++_, append-assoc}
 use mathlib.Core.Logic.{inl, inr}
 use Prim.Native.Nat.{ℕ, zero, suc, _+_, _-_, _≤_, _<_}
 use native.Mathlib.Omega.{arith}
 use lib.Dec.{eqb}
 use lib.ListN.{length, getD, set, take, drop}
 use lib.Seq.{drop-set-lt, drop-drop}
-use Rattle.std.proofs.shelf.Lists.{take-more-set, drop-more, drop-all, length-append, length-take-le}
+use Rattle.std.proofs.shelf.Lists.{take-more-set, drop-more, drop-all, length-append}
 use Rattle.std.proofs.shelf.Tests.{cond-true, cond-false, eqb-true, eq-eqb, ne-eqb, cases-eq}
 use Rattle.retain.specs.declared.Write.{Write}
 use Rattle.retain.specs.declared.slots.Target.{Target}
 use Rattle.base.specs.Stores.{Store, cells, update}
-use Rattle.retain.specs.Device.{current, stamp, slot-base, slot-writes, commit-writes, value-writes, apply-writes, cut-writes, effective-writes, write-count}
-use Rattle.std.specs.declared.option.Option.{Option}
+use Rattle.retain.specs.Device.{stamp, slot-writes, commit-writes, value-writes, apply-writes, cut-writes, effective-writes}
 use Rattle.std.specs.declared.option.Option.the-variants.{Some, None}
 use Rattle.retain.specs.Entry.{Next, slot-write, Cut-cell}
 use Rattle.base.proofs.StoreLaws.{cells-set}
-use Rattle.retain.proofs.Writes.{cut-skip, count-length}
+use Rattle.retain.proofs.Writes.{cut-skip}
 
 -- the writes of a commit to a target: the stamp, the values, the stamp
 abbrev pub planned : ℕ → Target → Store → List Write

@@ -1,18 +1,18 @@
--- After every history the device holds what the story says.
+-- One step of a device: a commit that ends, and one that is cut, keep it sound and leave the values that they should.
 use mathlib.Core.Path.{_≡_, refl, sym, _∙_, ap, ap₂, subst}
 use mathlib.Core.Bool.{Bool, true, false, cond, not}
 use mathlib.Core.List.{List, [], _∷_, _++_}
 use mathlib.Core.Logic.{_⊎_, inl, inr}
-use Prim.Native.Nat.{ℕ, zero, suc, _+_, _-_, _≤_, _<_}
+use Prim.Native.Nat.{ℕ, suc, _+_, _-_, _≤_, _<_}
 use native.Mathlib.Omega.{arith}
 use lib.Dec.{eqb, ltb}
-use Rattle.std.proofs.shelf.Tests.{cond-both, cond-true, cond-false, and-parts, and-from, ltb-true, eqb-true, eqb-false, eq-eqb, ne-eqb, lt-ltb, cases-bool, cases-order}
+use Rattle.std.proofs.shelf.Tests.{cond-both, cond-true, cond-false, and-parts, and-from, ltb-true, eqb-true, eqb-false, eq-eqb, ne-eqb, lt-ltb, cases-order}
 use Rattle.std.proofs.shelf.Ways.{tells}
 use Rattle.retain.specs.declared.Write.{Write}
 use Rattle.base.specs.Stores.{Store, update}
 use Rattle.retain.specs.Device.{slot-base, valid, current, stamp, recovered, value-writes, slot-writes, commit-writes, apply-writes, cut-writes, write-count, factory, came-out, Sound, Holds}
-use Rattle.retain.specs.Story.{cut-leaves, story}
-use Rattle.retain.specs.History.{Op, committed, cut, after, writes-after, told, Retained, Rules, Ruled}
+use Rattle.retain.specs.Story.{cut-leaves}
+use Rattle.retain.specs.History.{cut}
 use Rattle.base.proofs.StoreLaws.{update-same, update-other}
 use Rattle.retain.proofs.StoryLaws.{before-leaves, past-leaves, last-leaves}
 use Rattle.retain.proofs.Writes.{Within, Outside, outside-ne, values-within, apply-frame, cut-frame, apply-head, apply-values, apply-append, count-append, cut-early, cut-late, cut-skip}
@@ -259,30 +259,3 @@ commit-keeps kept d v h = held-holds kept _ v (commit-step kept d (recovered kep
 pub cut-keeps : (kept : ℕ) (d v : Store) (k junk : ℕ) → Sound kept d →
     Holds kept (cut-writes d (commit-writes kept d v) k junk) (cut-leaves (write-count d (commit-writes kept d v)) k (came-out kept d junk) (recovered kept d) v)
 cut-keeps kept d v k junk h = held-holds kept _ _ (cut-step kept d (recovered kept d) v k junk (sound-held kept d h))
-
--- the theorem, with the device's state
-pub held : (n : ℕ) (first : Store) (h : List Op) → Held n (after n first h) (story first (told n first h))
-unfolding after story told writes-after
-held n first [] = factory-held n first
-held n first (committed v ∷ h) = commit-step n (after n first h) (story first (told n first h)) v (held n first h)
-held n first (cut v k j ∷ h) = cut-step n (after n first h) (story first (told n first h)) v k j (held n first h)
-
-pub retained : Retained
-retained n first h = recovered-is n (after n first h) (story first (told n first h)) (held n first h)
-
-module _ (n : ℕ) (first : Store) (h : List Op) where
-  after-sound : Sound n (after n first h)
-  after-sound = held-holds n (after n first h) (story first (told n first h)) (held n first h) .0
-
-pub ruled : Ruled
-unfolding after writes-after came-out
-ruled n first = record {
-  as-made = factory-sound n first .1;
-  saved = λ h v. commit-keeps n (after n first h) v (after-sound n first h) .1;
-  cut-before = λ h v k j l i m. cut-keeps n (after n first h) v k j (after-sound n first h) .1 i m ∙ ap (λ u. u i) (before-leaves _ k _ _ v l);
-  cut-past = λ h v k j l i m. cut-keeps n (after n first h) v k j (after-sound n first h) .1 i m ∙ ap (λ u. u i) (past-leaves _ k _ _ v l);
-  cut-last = λ h v k j l. elim (cases-bool (came-out n (after n first h) j)) [
-    | inl e ↦ inr (λ i m. cut-keeps n (after n first h) v k j (after-sound n first h) .1 i m ∙ ap (λ u. u i) (last-leaves _ k _ (recovered n (after n first h)) v l ∙ cond-true _ _ _ e))
-    | inr e ↦ inl (λ i m. cut-keeps n (after n first h) v k j (after-sound n first h) .1 i m ∙ ap (λ u. u i) (last-leaves _ k _ (recovered n (after n first h)) v l ∙ cond-false _ _ _ e))
-  ];
-}

@@ -14,6 +14,7 @@ use Rattle.retain.specs.declared.Write.{Write}
 use Rattle.retain.specs.declared.slots.Target.{Target}
 use Rattle.retain.specs.Device.{cell-count, current, commit-writes, apply-writes, cut-writes, effective-writes, write-count, factory, came-out, recovered, Holds}
 use Rattle.retain.specs.Story.{cut-leaves}
+use Rattle.retain.specs.History.{after}
 use Rattle.retain.specs.Entry.{Next, Formatted, Committed, Interrupted}
 use Rattle.retain.proofs.Writes.{count-length}
 use Rattle.retain.proofs.Cells.{Going, planned, planned-is, to-come-none}
@@ -29,7 +30,8 @@ unfolding factory
 past-factory kept first i l = grind (arith, tells)
 
 pub formatted : (kept : ℕ) (first device : List ℕ) → length device ≡ cell-count kept → ((i : ℕ) → i < length device → getD device i 0 ≡ factory kept (cells first) i) → Formatted kept first device
-formatted kept first device size h = record { cells-are = same; holds = subst (λ d. Holds kept d (cells first)) (sym same) (factory-sound kept (cells first)) }
+unfolding after
+formatted kept first device size h = record { cells-are = same; holds = subst (λ d. Holds kept d (cells first)) (sym same) (factory-sound kept (cells first)); history = same }
   where
     same : cells device ≡ factory kept (cells first)
     same =
@@ -42,7 +44,7 @@ module _ (kept : ℕ) (device values : List ℕ) (t : Target) (next : Next kept 
   pub committed : (writes : List Write) (n : ℕ) (writes₁ : List Write) (i : ℕ) → n ≤ kept + 2 → n ≤ length writes₁ → kept + 2 ≤ i →
       Going (apply-writes (cells device) (planned kept t (cells values))) (effective-writes (cells device) (planned kept t (cells values))) writes device₁ writes₁ n (drop i (planned kept t (cells values))) →
       Committed kept device values writes n device₁ writes₁
-  unfolding apply-writes effective-writes
+  unfolding apply-writes effective-writes after
   committed writes n writes₁ i few short all h = record {
     applied = applied;
     noted = noted;
@@ -50,6 +52,7 @@ module _ (kept : ℕ) (device values : List ℕ) (t : Target) (next : Next kept 
     few = few;
     count = sym (length-take-le n writes₁ short) ∙ ap length noted ∙ sym (count-length (commit-writes kept (cells device) (cells values)) (cells device));
     holds = λ s. subst (λ d. Holds kept d (cells values)) (sym applied) (commit-keeps kept (cells device) (cells values) s);
+    history = λ first h e. applied ∙ ap (λ d. apply-writes d (commit-writes kept d (cells values))) e;
   }
     where
       g : Going (apply-writes (cells device) (planned kept t (cells values))) (effective-writes (cells device) (planned kept t (cells values))) writes device₁ writes₁ n []
@@ -64,10 +67,12 @@ module _ (kept : ℕ) (device values : List ℕ) (t : Target) (next : Next kept 
       noted = sym (append-nil (take n writes₁)) ∙ g .writes ∙ ap (effective-writes (cells device)) (sym (planned-is kept (cells device) (cells values) t next))
 
   pub interrupted : (k junk : ℕ) → cells device₁ ≡ cut-writes (cells device) (planned kept t (cells values)) k junk → Interrupted kept device values k junk device₁
+  unfolding after
   interrupted k junk e = record {
     cells-are = cut-is;
     holds = λ s. subst (λ d. Holds kept d (cut-leaves (write-count (cells device) (commit-writes kept (cells device) (cells values))) k (came-out kept (cells device) junk) (recovered kept (cells device)) (cells values)))
         (sym cut-is) (cut-keeps kept (cells device) (cells values) k junk s);
+    history = λ first h e′. cut-is ∙ ap (λ d. cut-writes d (commit-writes kept d (cells values)) k junk) e′;
   }
     where
       cut-is : cells device₁ ≡ cut-writes (cells device) (commit-writes kept (cells device) (cells values)) k junk

@@ -1,6 +1,6 @@
 -- What lists of writes do: which cells they leave, and one list after another.
 use mathlib.Core.Path.{_≡_, refl, sym, _∙_, ap}
-use mathlib.Core.Bool.{Bool, true, false, cond}
+use mathlib.Core.Bool.{true, false, cond}
 use mathlib.Core.List.{List, [], _∷_, _++_}
 use mathlib.Core.Logic.{_⊎_, inl, inr}
 use Prim.Native.Nat.{ℕ, zero, suc, _+_, _≤_, _<_}
@@ -8,7 +8,7 @@ use native.Mathlib.Nat.{zero-add, suc-add}
 use native.Mathlib.Omega.{arith}
 use lib.Dec.{eqb}
 use lib.ListN.{length}
-use Rattle.std.proofs.shelf.Tests.{cond-both, cond-true, cond-false, eqb-true, eq-eqb, ne-eqb, cases-eq}
+use Rattle.std.proofs.shelf.Tests.{cond-both, cond-true, cond-false, eqb-true, eq-eqb, cases-eq}
 use Rattle.base.proofs.StoreLaws.{update-same, update-other}
 use Rattle.retain.specs.declared.Write.{Write}
 use Rattle.base.specs.Stores.{Store, update}

@@ -1,24 +1,21 @@
 -- What the functions say: what is refused, and what the lent lists are afterwards. Assumes nothing.
 use mathlib.Core.Path.{_≡_}
 use mathlib.Core.Bool.{Bool, true, false, cond, not}
-use mathlib.Core.List.{List}
+use mathlib.Core.List.{List, [], _∷_}
 use Prim.Native.Nat.{ℕ, _+_, _-_, _^_, _<_, _≤_}
 use lib.Dec.{ltb, leb, eqb}
 use lib.ListN.{length, getD, set, take, drop}
 use Rattle.std.specs.declared.option.Option.{Option}
 use Rattle.std.specs.declared.option.Option.the-variants.{Some, None}
-use Rattle.std.specs.declared.result.Result.{Result}
-use Rattle.std.specs.declared.result.Result.the-variants.{Ok, Err}
-use Rattle.base.specs.declared.Refusal.{Refusal}
 use Rattle.base.specs.Stores.{Store, cells}
-use Rattle.base.specs.Refusals.{unless, or-else, Answered, number-of, place-of}
+use Rattle.base.specs.Refusals.{unless, or-else}
 use Rattle.retain.specs.declared.slots.Slot.{Slot}
 use Rattle.retain.specs.declared.slots.Slot.the-variants.{Lower, Upper}
 use Rattle.retain.specs.declared.Write.{Write}
 use Rattle.retain.specs.declared.slots.Target.{Target}
 use Rattle.retain.specs.Device.{cell-count, slot-base, current, stamp, recovered, commit-writes, apply-writes, cut-writes, effective-writes, write-count, factory, came-out, Sound, Holds}
 use Rattle.retain.specs.Story.{cut-leaves, story}
-use Rattle.retain.specs.History.{Op, after, told}
+use Rattle.retain.specs.History.{Op, committed, cut, after, told}
 
 -- the slot of the two that is meant
 abbrev pub upper : Slot → Bool
@@ -52,10 +49,11 @@ pub record Next (kept : ℕ) (d : Store) (t : Target) : Type 0 where
 abbrev pub slot-write : ℕ → Target → Store → ℕ → Write
 slot-write kept t v i = record { cell = t .cell + i; value = cond (eqb i 0) (t .stamp) (cond (eqb i (kept + 1)) (t .stamp) (v (i - 1))) }
 
--- the device is as it leaves the factory: sound, and recovery finds the first values
+-- the device is as it leaves the factory, where every history begins: sound, and recovery finds the first values
 pub record Formatted (kept : ℕ) (first device₁ : List ℕ) : Type 0 where
   pub cells-are : cells device₁ ≡ factory kept (cells first)
   pub holds : Holds kept (cells device₁) (cells first)
+  pub history : cells device₁ ≡ after kept (cells first) []
 
 -- what is copied out is what recovery finds, after every history what the story says, and nothing else is written
 pub record Recovered (kept : ℕ) (device out out₁ : List ℕ) : Type 0 where
@@ -71,6 +69,7 @@ pub record Committed (kept : ℕ) (device values : List ℕ) (writes : List Writ
   pub few : n ≤ kept + 2
   pub count : n ≡ write-count (cells device) (commit-writes kept (cells device) (cells values))
   pub holds : Sound kept (cells device) → Holds kept (cells device₁) (cells values)
+  pub history : (first : Store) (h : List Op) → cells device ≡ after kept first h → cells device₁ ≡ after kept first (committed (cells values) ∷ h)
 
 -- the device is as a cut at write k leaves it: recovery then finds what such a cut leaves of the values
 pub record Interrupted (kept : ℕ) (device values : List ℕ) (k junk : ℕ) (device₁ : List ℕ) : Type 0 where
@@ -78,6 +77,7 @@ pub record Interrupted (kept : ℕ) (device values : List ℕ) (k junk : ℕ) (d
   pub holds : Sound kept (cells device) →
       Holds kept (cells device₁)
       (cut-leaves (write-count (cells device) (commit-writes kept (cells device) (cells values))) k (came-out kept (cells device) junk) (recovered kept (cells device)) (cells values))
+  pub history : (first : Store) (h : List Op) → cells device ≡ after kept first h → cells device₁ ≡ after kept first (cut (cells values) k junk ∷ h)
 
 -- what one cell's write says, with k to be done before power goes: none are left, or so many
 abbrev pub Cut-cell : (device : List ℕ) → Write → (k junk : ℕ) → Option ℕ → (device′ : List ℕ) → Type 0

@@ -1,4 +1,5 @@
 pub mod Device
 pub mod Story
 pub mod History
+pub mod Night
 pub mod Entry

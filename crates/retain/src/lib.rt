@@ -1,8 +1,12 @@
 //! A memory that outlasts power cuts: two slots of cells, each a stamp, the kept values and the stamp again.
+//!
+//! Each function takes any cells. It refuses, and changes nothing, where a parameter doesn't fit: more than 64 values, a
+//! device that isn't `2 * (kept + 2)` cells, a list shorter than it has to be; the first such parameter is told.
 ghost use mathlib.Core.Path.{_≡_};
 ghost use lib.ListN.{length};
 ghost use Rattle.base.specs.Refusals.{Answered, Checked};
 ghost use Rattle.retain.specs.History.{Retained, Ruled};
+ghost use Rattle.retain.specs.Night.{Night};
 ghost use Rattle.retain.specs.Entry.{shape-refusal, commit-refusal, cut-refusal, Formatted, Recovered, Committed, Interrupted};
 use base::Refusal;
 use slots::current_slot;
@@ -64,6 +68,7 @@ pub fn recover(kept: usize, device: &[u64], out: &mut [u64]) -> Result<(), Refus
 }
 
 /// Commits the values: does the writes that change a cell, and hands them out in their order. Says how many they are.
+/// Refuses a room for fewer than `kept + 2` writes, and then a stamp that can't be raised.
 pub fn commit(
     kept: usize,
     device: &mut [u64],
@@ -84,7 +89,7 @@ pub fn commit(
     Ok(count)
 }
 
-/// Commits the values till power goes at write `k`, which leaves `junk` in its cell.
+/// Commits the values till power goes at write `k`, which leaves `junk` in its cell. Only writes that change a cell count.
 pub fn commit_cut(
     kept: usize,
     device: &mut [u64],
@@ -110,6 +115,13 @@ pub fn commit_cut(
 pub fn retention() -> u8
     ensures retained { λ _. ⌜ Retained ⌝ }
     ensures ruled { λ _. ⌜ Ruled ⌝ }
+{
+    0
+}
+
+/// A program that writes every cell can come to show values that nobody kept; this one doesn't.
+pub fn night_of_cuts() -> u8
+    ensures { λ _. ⌜ Night ⌝ }
 {
     0
 }

@@ -34,6 +34,11 @@ Ends size code elapsed r = last size code elapsed r .pc ≡ length (code-in code
 abbrev pub outcome-of : (size : ℕ) (code : List ℕ) (elapsed : ℕ) → Values → Outcome
 outcome-of size code elapsed r = cond (eqb (last size code elapsed r .pc) (length (code-in code))) Finished Trapped
 
+-- an outcome as a number
+abbrev pub ended : Outcome → ℕ
+ended Finished = 1
+ended Trapped = 0
+
 -- a run of code that is right for a program finishes, with the values that the program means
 abbrev pub Runs-right : (elapsed : ℕ) (code vars : List ℕ) (fault : ℕ) → Outcome → (vars₁ : List ℕ) (fault₁ : ℕ) → Type 0
 Runs-right elapsed code vars fault r vars₁ fault₁ =

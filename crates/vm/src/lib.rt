@@ -2,7 +2,7 @@
 ghost use mathlib.Core.Path.{_≡_};
 ghost use lib.ListN.{length};
 ghost use Rattle.base.specs.Stores.{cells};
-ghost use Rattle.vm.specs.Outcomes.{values-of, program-of, outcome-of, Runs-right, Code-means, Never-trapped};
+ghost use Rattle.vm.specs.Outcomes.{values-of, program-of, outcome-of, ended, Runs-right, Code-means, Never-trapped};
 use machine::Vm;
 
 mod machine;
@@ -54,3 +54,20 @@ pub fn never_trapped() -> u8
 {
     0
 }
+
+/// The machine for C: runs code as `run` does, and answers 1 where the code's end was reached and
+/// 0 where the run was trapped.
+#[unsafe(no_mangle)]
+pub extern "C" fn vm_run(code: &[u16], elapsed: u64, vars: &mut [u64], fault: &mut u64) -> u8
+    ensures vars { λ _. ⌜ cells (now (vars .exit)) ≡ program-of (length (now (vars .entry))) (now (code .entry)) elapsed (values-of (now (vars .entry)) (now (fault .entry))) .store ⌝ }
+    ensures fault { λ _. ⌜ now (fault .exit) ≡ program-of (length (now (vars .entry))) (now (code .entry)) elapsed (values-of (now (vars .entry)) (now (fault .entry))) .fault ⌝ }
+    ensures outcome { λ r. ⌜ r ≡ ended (outcome-of (length (now (vars .entry))) (now (code .entry)) elapsed (values-of (now (vars .entry)) (now (fault .entry)))) ⌝ }
+{
+    match run(code, elapsed, vars, fault) {
+        Outcome::Finished => 1,
+        Outcome::Trapped => 0,
+    }
+}
+
+#[cfg(test)]
+mod tests;

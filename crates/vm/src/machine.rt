@@ -8,7 +8,7 @@ ghost use Rattle.compiler.specs.Instr.{Instr, push, load, store, invert, binary
 ghost use Rattle.compiler.specs.Machine.{boot};
 ghost use Rattle.compiler.specs.Code.{instr-of, code-in};
 ghost use Rattle.vm.specs.Bounds.{bounded-steps};
-ghost use Rattle.vm.specs.State.{machine-of, Noted, Does};
+ghost use Rattle.vm.specs.State.{machine-of, Noted, Done, Done-inside};
 ghost use Rattle.vm.specs.Outcomes.{values-of};
 use crate::stack::Stack;
 use crate::words::apply_op;
@@ -45,7 +45,7 @@ impl Vm {
     /// Puts `n` on the stack.
     fn push(&mut self, n: u16) -> bool
         requires { ⌜ now self .pc < 2 ^ 63 ⌝ }
-        ensures { λ r. ⌜ ((z : ℕ) (vs : List ℕ) → Does z 0 (push n) (machine-of (now (self .entry)) vs) (machine-of (now (self .exit)) vs) r) ⌝ }
+        ensures { λ r. ⌜ Done-inside (push n) (now (self .entry)) (now (self .exit)) r ⌝ }
     {
         if self.values.len() >= 32 {
             return false;
@@ -58,7 +58,7 @@ impl Vm {
     /// Puts a variable on the stack.
     fn load(&mut self, vars: &[u64], i: u16) -> bool
         requires { ⌜ now self .pc < 2 ^ 63 ⌝ }
-        ensures { λ r. ⌜ Does (length (now (vars .entry))) 0 (load i) (machine-of (now (self .entry)) (now (vars .entry))) (machine-of (now (self .exit)) (now (vars .entry))) r ⌝ }
+        ensures { λ r. ⌜ ((elapsed : ℕ) → Done elapsed (load i) (now (self .entry)) (now (vars .entry)) (now (self .exit)) (now (vars .entry)) r) ⌝ }
     {
         let at = self.base.saturating_add(i as usize);
         if at >= vars.len() || self.values.len() >= 32 {
@@ -72,7 +72,7 @@ impl Vm {
     /// Takes the top off into a variable.
     fn store(&mut self, vars: &mut [u64], i: u16) -> bool
         requires { ⌜ now self .pc < 2 ^ 63 ⌝ }
-        ensures { λ r. ⌜ Does (length (now (vars .entry))) 0 (store i) (machine-of (now (self .entry)) (now (vars .entry))) (machine-of (now (self .exit)) (now (vars .exit))) r ⌝ }
+        ensures { λ r. ⌜ ((elapsed : ℕ) → Done elapsed (store i) (now (self .entry)) (now (vars .entry)) (now (self .exit)) (now (vars .exit)) r) ⌝ }
     {
         let at = self.base.saturating_add(i as usize);
         if at >= vars.len() {
@@ -86,7 +86,7 @@ impl Vm {
     /// Makes the top 1 where it is 0, and 0 where it is not.
     fn invert(&mut self) -> bool
         requires { ⌜ now self .pc < 2 ^ 63 ⌝ }
-        ensures { λ r. ⌜ ((z : ℕ) (vs : List ℕ) → Does z 0 invert (machine-of (now (self .entry)) vs) (machine-of (now (self .exit)) vs) r) ⌝ }
+        ensures { λ r. ⌜ Done-inside invert (now (self .entry)) (now (self .exit)) r ⌝ }
     {
         let x = self.values.pop();
         self.values.push((x == 0) as u64);
@@ -97,7 +97,7 @@ impl Vm {
     /// Takes two values off, and puts on what the operation makes of them.
     fn binary(&mut self, op: u16) -> bool
         requires { ⌜ now self .pc < 2 ^ 63 ⌝ }
-        ensures { λ r. ⌜ ((z : ℕ) (vs : List ℕ) → Does z 0 (binary (op-of op)) (machine-of (now (self .entry)) vs) (machine-of (now (self .exit)) vs) r) ⌝ }
+        ensures { λ r. ⌜ Done-inside (binary (op-of op)) (now (self .entry)) (now (self .exit)) r ⌝ }
     {
         let y = self.values.pop();
         let x = self.values.pop();
@@ -112,7 +112,7 @@ impl Vm {
     /// Goes on `n` instructions after the next one.
     fn jump(&mut self, n: u16) -> bool
         requires { ⌜ now self .pc < 2 ^ 63 ⌝ }
-        ensures { λ r. ⌜ ((z : ℕ) (vs : List ℕ) → Does z 0 (jump n) (machine-of (now (self .entry)) vs) (machine-of (now (self .exit)) vs) r) ⌝ }
+        ensures { λ r. ⌜ Done-inside (jump n) (now (self .entry)) (now (self .exit)) r ⌝ }
     {
         self.pc += 1 + n as usize;
         true
@@ -121,7 +121,7 @@ impl Vm {
     /// Takes the top off, and goes on `n` instructions after the next one where it was 0.
     fn jump_if_zero(&mut self, n: u16) -> bool
         requires { ⌜ now self .pc < 2 ^ 63 ⌝ }
-        ensures { λ r. ⌜ ((z : ℕ) (vs : List ℕ) → Does z 0 (jump-if-zero n) (machine-of (now (self .entry)) vs) (machine-of (now (self .exit)) vs) r) ⌝ }
+        ensures { λ r. ⌜ Done-inside (jump-if-zero n) (now (self .entry)) (now (self .exit)) r ⌝ }
     {
         self.pc += 1;
         if self.values.pop() == 0 {
@@ -133,7 +133,7 @@ impl Vm {
     /// Begins `rounds` rounds of a repetition, or goes past it where there are none.
     fn enter(&mut self, rounds: u16, past: u16) -> bool
         requires { ⌜ now self .pc < 2 ^ 63 ⌝ }
-        ensures { λ r. ⌜ ((z : ℕ) (vs : List ℕ) → Does z 0 (enter rounds past) (machine-of (now (self .entry)) vs) (machine-of (now (self .exit)) vs) r) ⌝ }
+        ensures { λ r. ⌜ Done-inside (enter rounds past) (now (self .entry)) (now (self .exit)) r ⌝ }
     {
         if rounds == 0 {
             self.pc += 1 + past as usize;
@@ -150,7 +150,7 @@ impl Vm {
     /// Ends a round: goes back for the next one, or goes on where it was the last.
     fn back(&mut self, n: u16) -> bool
         requires { ⌜ now self .pc < 2 ^ 63 ⌝ }
-        ensures { λ r. ⌜ ((z : ℕ) (vs : List ℕ) → Does z 0 (back n) (machine-of (now (self .entry)) vs) (machine-of (now (self .exit)) vs) r) ⌝ }
+        ensures { λ r. ⌜ Done-inside (back n) (now (self .entry)) (now (self .exit)) r ⌝ }
     {
         self.pc += 1;
         let left = self.control.pop();
@@ -164,7 +164,7 @@ impl Vm {
     /// Counts a delay on by the time since the last run, while the top, which it takes off, is not 0.
     fn tick(&mut self, elapsed: u64, vars: &mut [u64], out: u16, counter: u16, preset: u16) -> bool
         requires { ⌜ now self .pc < 2 ^ 63 ⌝ }
-        ensures { λ r. ⌜ Does (length (now (vars .entry))) elapsed (tick out counter preset) (machine-of (now (self .entry)) (now (vars .entry))) (machine-of (now (self .exit)) (now (vars .exit))) r ⌝ }
+        ensures { λ r. ⌜ Done elapsed (tick out counter preset) (now (self .entry)) (now (vars .entry)) (now (self .exit)) (now (vars .exit)) r ⌝ }
     {
         let out = self.base.saturating_add(out as usize);
         let counter = self.base.saturating_add(counter as usize);
@@ -189,7 +189,7 @@ impl Vm {
     /// Does the instruction of four numbers, if it is allowed, and tells whether it was.
     fn step(&mut self, kind: u16, a: u16, b: u16, c: u16, elapsed: u64, vars: &mut [u64]) -> bool
         requires { ⌜ now self .pc < 2 ^ 63 ⌝ }
-        ensures { λ r. ⌜ Does (length (now (vars .entry))) elapsed (instr-of kind a b c) (machine-of (now (self .entry)) (now (vars .entry))) (machine-of (now (self .exit)) (now (vars .exit))) r ⌝ }
+        ensures { λ r. ⌜ Done elapsed (instr-of kind a b c) (now (self .entry)) (now (vars .entry)) (now (self .exit)) (now (vars .exit)) r ⌝ }
     {
         match kind {
             0 => self.push(a),
@@ -215,8 +215,9 @@ impl Vm {
         let mut left = budget;
         while left > 0 && self.pc < count {
             let at = self.pc * 4;
+            let kind = code[at];
             if !self.step(
-                code[at],
+                kind,
                 code[at + 1],
                 code[at + 2],
                 code[at + 3],

@@ -1,13 +1,13 @@
 use mathlib.Core.Path.{_≡_, _∙_, ap}
 use mathlib.Core.List.{List}
-use Prim.Native.Nat.{ℕ, _+_, _-_, _<_, _≤_}
+use Prim.Native.Nat.{ℕ, _+_, _-_, _<_}
 use native.Mathlib.Omega.{arith}
 use lib.ListN.{length, getD, take, drop}
 use lib.Seq.{getD-take, getD-drop, length-take-le}
-use Rattle.base.specs.Stores.{cells, Overwritten}
+use Rattle.base.specs.Stores.{cells}
 use Rattle.base.proofs.Regions.{front-written}
 use Rattle.retain.specs.Device.{current, slot-base, recovered}
-use Rattle.retain.proofs.Holds.{retained}
+use Rattle.retain.proofs.Histories.{retained}
 use Rattle.retain.proofs.Shape.{shaped}
 use Rattle.retain.proofs.recover.Needs as need
 

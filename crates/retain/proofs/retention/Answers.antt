@@ -1,5 +1,5 @@
 use Rattle.retain.proofs.retention.Needs as need
-use Rattle.retain.proofs.Holds.{retained, ruled}
+use Rattle.retain.proofs.Histories.{retained, ruled}
 
 pub returns : need.returns
 returns c = record { retained = retained; ruled = ruled }

@@ -1,0 +1,16 @@
+pub mod Reacts
+pub mod Survival
+pub mod Rules
+pub mod Stays
+pub mod WordLaws
+pub mod Images
+pub mod Pairs
+pub mod Filled
+pub mod Parts
+pub mod States
+pub mod Factory
+pub mod Forces
+pub mod Runs
+pub mod Starts
+pub mod Scans
+pub mod Passed

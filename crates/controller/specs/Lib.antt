@@ -1,0 +1,9 @@
+pub mod World
+pub mod Story
+pub mod History
+pub mod Decided
+pub mod Promises
+pub mod Layout
+pub mod Memory
+pub mod Requests
+pub mod Entries
