@@ -12,7 +12,6 @@ use Rattle.retain.specs.declared.Write.{Write}
 use Rattle.base.specs.Stores.{Store, update}
 use Rattle.retain.specs.Device.{slot-base, valid, current, stamp, recovered, value-writes, slot-writes, commit-writes, apply-writes, cut-writes, write-count, factory, came-out, Sound, Holds}
 use Rattle.retain.specs.Story.{cut-leaves}
-use Rattle.retain.specs.History.{cut}
 use Rattle.base.proofs.StoreLaws.{update-same, update-other}
 use Rattle.retain.proofs.StoryLaws.{before-leaves, past-leaves, last-leaves}
 use Rattle.retain.proofs.Writes.{Within, Outside, outside-ne, values-within, apply-frame, cut-frame, apply-head, apply-values, apply-append, count-append, cut-early, cut-late, cut-skip}
@@ -58,7 +57,7 @@ not-not true = refl
 not-not false = refl
 
 -- the writes of a commit but for the last, and the last
-abbrev front : ℕ → Bool → ℕ → (Store) → List Write
+abbrev front : ℕ → Bool → ℕ → Store → List Write
 front n a s v = record { cell = slot-base n a; value = s } ∷ value-writes (slot-base n a + 1) v 0 n
 
 abbrev last : ℕ → Bool → ℕ → Write

@@ -20,7 +20,7 @@ fn story_says(k: u64, n: u64, old: [u64; 2], next: [u64; 2], found: [u64; 2]) ->
     } else if k + 1 < n {
         check_eq(found, old)
     } else {
-        check(found == old)
+        check(found == old || found == next)
     }
 }
 
