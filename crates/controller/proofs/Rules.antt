@@ -13,7 +13,7 @@ use Rattle.retain.specs.History.{Same}
 use Rattle.retain.proofs.Holds.{commit-keeps, cut-keeps}
 use Rattle.retain.proofs.StoryLaws.{before-leaves, past-leaves, last-leaves}
 use Rattle.controller.specs.World.{Project, Event, start, scan, cut, started}
-use Rattle.controller.specs.Story.{tale}
+use Rattle.controller.specs.Story.{as-made, tale}
 use Rattle.controller.specs.History.{save, react, after}
 use Rattle.controller.specs.Decided.{decided}
 use Rattle.controller.specs.Promises.{found, put, writes-of, Rules, Ruled, Found-at-start, Start-finds}
@@ -36,9 +36,13 @@ module _ (p : Project) (es : List Event) (f : ℕ → ℕ) (dt : ℕ) (on : afte
       ap (λ s. recovered (p .kept) (s .device) i) (after-more p (cut f dt k junk) es ∙ react-cut p (after p es) f dt k junk on)
       ∙ cut-keeps (p .kept) (after p es .device) (put p es f dt) k junk (agrees p es .sound) .1 i l
 
+made-is : (p : Project) → Same (p .kept) (found p []) (p .initial)
+unfolding tale as-made decided
+made-is p = agrees p [] .keeps
+
 pub ruled : Ruled
 ruled p = record {
-  as-made = agrees p [] .keeps;
+  as-made = made-is p;
   saved = saved-is p;
   cut-before = λ es f dt k junk on h i l. cut-is p es f dt on k junk i l ∙ ap (λ u. u i) (before-leaves _ k _ _ _ h);
   cut-past = λ es f dt k junk on h i l. cut-is p es f dt on k junk i l ∙ ap (λ u. u i) (past-leaves _ k _ _ _ h);
