@@ -1,4 +1,4 @@
--- What the program sees and what goes out, point by point.
+-- What a memory's cells say: values, on and lamp, what the program sees and what goes out, point by point.
 use mathlib.Core.Path.{_≡_, refl, sym, ap, _∙_}
 use mathlib.Core.Bool.{Bool, cond}
 use mathlib.Core.List.{List}
@@ -12,9 +12,21 @@ use Rattle.base.proofs.Regions.{region-at, region-past}
 use Rattle.controller.specs.World.{input-image, output-image}
 use Rattle.controller.specs.Memory.{live-in, marks, flags, input-cell, output-cell}
 
+pub on-is : (m : List ℕ) → live-in m .on ≡ eqb (getD m 192 0) 1
+unfolding live-in
+on-is m = refl
+
+pub lamp-is : (m : List ℕ) → live-in m .lamp ≡ eqb (getD m 193 0) 1
+unfolding live-in
+lamp-is m = refl
+
 module _ (m : List ℕ) (i : ℕ) where
   at-0 : i < 64 → region m 0 64 i ≡ getD m i 0
   at-0 h = region-at m 0 64 i h ∙ ap (λ x. getD m x 0) (zero-add i)
+
+  pub value-at : i < 64 → live-in m .store i ≡ getD m i 0
+  unfolding live-in
+  value-at h = at-0 h
 
   pub input-at : (inputs outside : List ℕ) → i < 64 → input-image (flags inputs) (live-in m) (cells outside) i ≡ input-cell inputs outside m i
   unfolding input-image live-in marks

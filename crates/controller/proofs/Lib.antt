@@ -3,6 +3,7 @@ pub mod Survival
 pub mod Rules
 pub mod Stays
 pub mod WordLaws
+pub mod Stamps
 pub mod Images
 pub mod Pairs
 pub mod Filled

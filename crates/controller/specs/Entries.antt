@@ -1,20 +1,20 @@
 -- What the entries leave in what they are lent. Assumes nothing: these are definitions.
 use mathlib.Core.Path.{_≡_}
 use mathlib.Core.List.{List, [], _∷_}
-use Prim.Native.Nat.{ℕ, _*_, _<_, _≤_}
-use lib.ListN.{getD}
+use Prim.Native.Nat.{ℕ, _+_, _*_, _<_, _≤_}
+use lib.ListN.{getD, set}
 use Rattle.base.specs.Stores.{Store, cells}
 use Rattle.base.specs.Words.{bit, truthy}
 use Rattle.semantics.specs.Eval.{Values, Program}
 use Rattle.compiler.specs.Right.{Compiled}
 use Rattle.vm.specs.Outcomes.{program-of, Ends}
 use Rattle.retain.specs.Device.{recovered, apply-writes, cut-writes, effective-writes, factory as new-device}
-use Rattle.controller.specs.World.{Project, Live, Event, start, scan, cut, executed, outputs, scanned}
+use Rattle.controller.specs.World.{Project, Event, start, scan, cut, force, free, executed, outputs, scanned}
 use Rattle.controller.specs.Story.{tale}
 use Rattle.controller.specs.History.{react, save, after}
 use Rattle.controller.specs.Decided.{decided}
 use Rattle.controller.specs.Promises.{As-told}
-use Rattle.controller.specs.Layout.{variables, marks-from, on-cell, lamp-cell, device-from}
+use Rattle.controller.specs.Layout.{variables, marks-from, forces-from, on-cell, lamp-cell, device-from}
 use Rattle.controller.specs.Memory.{live-in, device-in, state-in, project, Stands-for, writes-in}
 
 -- P holds for the program that any code is, and for every program that the code is right for; such code comes to its end from any values,
@@ -51,6 +51,16 @@ pub record Started (kept : ℕ) (firsts memory memory₁ : List ℕ) : Type 0 wh
   pub on : getD memory₁ on-cell 0 ≡ 1
   pub lamp : getD memory₁ lamp-cell 0 ≡ 0
   pub device : device-in memory₁ ≡ device-in memory
+
+-- a point is forced: its mark is 1, its number stands in its cell, and nothing else is touched
+pub record Forced (point number : ℕ) (memory memory₁ : List ℕ) : Type 0 where
+  pub written : memory₁ ≡ set (set memory (marks-from + point) 1) (forces-from + point) number
+  pub follows : (p : Project) → Follows p (force point number) memory memory₁
+
+-- a point is free again: its mark is 0, and nothing else is touched
+pub record Freed (point : ℕ) (memory memory₁ : List ℕ) : Type 0 where
+  pub written : memory₁ ≡ set memory (marks-from + point) 0
+  pub follows : (p : Project) → Follows p (free point) memory memory₁
 
 -- after a scan: the values and the lamp that the program made, the writes of the save done in the device and handed out in their order,
 -- all else as it was; and the outputs are shown, which are those of every history of memory with the scan added, and of its tale

@@ -3,11 +3,12 @@ use mathlib.Core.Path.{_≡_}
 use mathlib.Core.Bool.{Bool, true, false, not}
 use mathlib.Core.List.{List, [], _∷_, _++_}
 use mathlib.Core.Logic.{_⊎_}
-use Prim.Native.Nat.{ℕ, suc, _<_, _≤_}
+use Prim.Native.Nat.{ℕ, suc, _+_, _<_, _≤_}
 use lib.Dec.{eqb}
+use lib.ListN.{length}
 use Rattle.base.specs.Stores.{Store}
 use Rattle.semantics.specs.Eval.{Values, Program}
-use Rattle.retain.specs.Device.{recovered, write-count}
+use Rattle.retain.specs.Device.{stamp, recovered, write-count}
 use Rattle.retain.specs.History.{Same}
 use Rattle.controller.specs.World.{Project, Live, Event, start, scan, cut, force, free, needs-power, saves, input-image, executed, outputs}
 use Rattle.controller.specs.Story.{tale}
@@ -114,3 +115,7 @@ pub record All-words (p : Project) (es : List Event) : Type 0 where
 -- words stay words
 abbrev pub Words-stay : Type 0
 Words-stay = (p : Project) (es : List Event) → Words (p .initial) → Keeps-words (p .program) → Each Brings-words es → All-words p es
+
+-- a stamp is at most one more than the number of events
+abbrev pub Stamps-last : Type 0
+Stamps-last = (p : Project) (es : List Event) → stamp (p .kept) (after p es .device) ≤ length es + 1

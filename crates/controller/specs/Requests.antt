@@ -34,9 +34,11 @@ abbrev pub point-refusal : (kept point : ℕ) → (memory : List ℕ) → (place
 point-refusal kept point memory place =
     or-else (kept-refusal kept) (or-else (length-refusal (length memory) (memory-length kept) place) (or-else (power-refusal memory) (unless (leb point 63) 9 0 None)))
 
+-- force: that, and a number that is no word
 abbrev pub force-refusal : (kept point number : ℕ) → (memory : List ℕ) → Option (ℕ × ℕ)
 force-refusal kept point number memory = or-else (point-refusal kept point memory 3) (unless (leb number 65535) 9 1 None)
 
+-- free: that, with the memory at place 2
 abbrev pub free-refusal : (kept point : ℕ) → (memory : List ℕ) → Option (ℕ × ℕ)
 free-refusal kept point memory = point-refusal kept point memory 2
 
@@ -53,34 +55,37 @@ ready-refusal elapsed memory = or-else (power-refusal memory) (unless (leb elaps
 abbrev pub run-refusal : (kept elapsed : ℕ) → (memory : List ℕ) → Option (ℕ × ℕ)
 run-refusal kept elapsed memory = or-else (ready-refusal elapsed memory) (stamp-refusal (stamp kept (device-in memory)))
 
+-- scan: what it is lent, in the order of the parameters, and then when it can't be done
 abbrev pub scan-refusal : (kept : ℕ) → (inputs firsts outside : List ℕ) → (elapsed : ℕ) → (memory out writes : List ℕ) → Option (ℕ × ℕ)
 scan-refusal kept inputs firsts outside elapsed memory out writes =
     or-else (lists-refusal kept inputs firsts outside) (or-else (length-refusal (length memory) (memory-length kept) 6)
     (or-else (length-refusal (length out) variables 7) (or-else (length-refusal (length writes) (cell-count kept) 8) (run-refusal kept elapsed memory))))
 
+-- cut: the same, without outputs and writes
 abbrev pub cut-refusal : (kept : ℕ) → (inputs firsts outside : List ℕ) → (elapsed : ℕ) → (memory : List ℕ) → Option (ℕ × ℕ)
 cut-refusal kept inputs firsts outside elapsed memory =
     or-else (lists-refusal kept inputs firsts outside) (or-else (length-refusal (length memory) (memory-length kept) 8) (run-refusal kept elapsed memory))
 
--- WHAT PASSED: of works and start
+-- what is known of works and start once their checks passed
 pub record Start-fits (kept : ℕ) (firsts memory : List ℕ) : Type 0 where
   pub low : kept ≤ variables
   pub firsts-long : length firsts ≡ variables
   pub memory-long : length memory ≡ memory-length kept
 
--- of force and free
+-- what is known of force and free
 pub record Point-fits (kept point : ℕ) (memory : List ℕ) : Type 0 where
   pub low : point < variables
   pub memory-long : length memory ≡ memory-length kept
   pub on : getD memory on-cell 0 ≡ 1
 
--- of scan and cut
+-- what is known of scan and cut by their lists
 pub record Lists-fit (kept : ℕ) (inputs firsts outside : List ℕ) : Type 0 where
   pub low : kept ≤ variables
   pub inputs-long : length inputs ≡ variables
   pub firsts-long : length firsts ≡ variables
   pub outside-long : length outside ≡ variables
 
+-- and by the memory and the time
 pub record Ready (elapsed : ℕ) (memory : List ℕ) : Type 0 where
   pub on : getD memory on-cell 0 ≡ 1
   pub word : elapsed ≤ 65535

@@ -58,12 +58,7 @@ pub(crate) fn check_start(kept: u64, firsts: &[u16], memory: &[u64]) -> Result<(
 }
 
 /// What force and free are lent, the memory at `place` of the call.
-pub(crate) fn check_point(
-    kept: u64,
-    point: u64,
-    memory: &[u64],
-    place: u64,
-) -> Result<(), Refusal>
+pub(crate) fn check_point(kept: u64, point: u64, memory: &[u64], place: u64) -> Result<(), Refusal>
     ensures { λ r. ⌜ Answered r (point-refusal kept point (now (memory .entry)) place) (λ _. Point-fits kept point (now (memory .entry))) (Unit {0}) ⌝ }
 {
     check_kept(kept)?;

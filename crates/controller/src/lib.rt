@@ -1,17 +1,15 @@
 //! The entries of a controller over lent memory: works, start, scan, cut, force and free.
 ghost use mathlib.Core.Path.{_≡_};
-ghost use Prim.Native.Nat.{_+_};
-ghost use lib.ListN.{set};
 ghost use Rattle.base.specs.Stores.{cells};
 ghost use Rattle.base.specs.Refusals.{Answered};
-ghost use Rattle.controller.specs.World.{Project, force as force-event, free as free-event};
-ghost use Rattle.controller.specs.Promises.{Survives, Ruled, Start-finds, Force-stays, Words-stay};
+ghost use Rattle.controller.specs.Promises.{Survives, Ruled, Start-finds, Force-stays, Words-stay, Stamps-last};
 ghost use Rattle.controller.specs.Memory.{project};
 ghost use Rattle.controller.specs.Requests.{start-refusal, force-refusal, free-refusal, scan-refusal, cut-refusal};
-ghost use Rattle.controller.specs.Entries.{Each-meaning, Follows, New, Started, Scanned, Cut-off};
+ghost use Rattle.controller.specs.Entries.{Each-meaning, New, Started, Forced, Freed, Scanned, Cut-off};
 use base::Refusal;
 use checks::*;
 use layout::*;
+use lent::*;
 use points::*;
 use retain::Write;
 use retain::commit;
@@ -20,14 +18,11 @@ use retain::format;
 use retain::recover;
 use run::run_program;
 
-mod layout;
-
 mod checks;
-
+mod layout;
+mod lent;
 mod points;
-
 mod run;
-
 #[cfg(test)]
 mod tests;
 
@@ -44,7 +39,7 @@ pub fn works(kept: u64, firsts: &[u16], memory: &mut [u64]) -> Result<u64, Refus
     check_start(kept, firsts, memory)?;
     let values = first_values(firsts);
     format(kept as usize, &mut memory[DEVICE..], &values)?;
-    clear(memory, 0, DEVICE);
+    power_off(memory);
     Ok(0)
 }
 
@@ -64,7 +59,7 @@ pub fn start(kept: u64, firsts: &[u16], memory: &mut [u64]) -> Result<u64, Refus
 
 /// A point is forced to a number.
 pub fn force(kept: u64, point: u64, number: u64, memory: &mut [u64]) -> Result<u64, Refusal>
-    ensures { λ r. ⌜ Answered r (force-refusal kept point number (now (memory .entry))) (λ n. (n ≡ 0) × (now (memory .exit) ≡ set (set (now (memory .entry)) (64 + point) 1) (128 + point) number) × ((p : Project) → Follows p (force-event point number) (now (memory .entry)) (now (memory .exit)))) (now (memory .exit) ≡ now (memory .entry)) ⌝ }
+    ensures { λ r. ⌜ Answered r (force-refusal kept point number (now (memory .entry))) (λ n. (n ≡ 0) × Forced point number (now (memory .entry)) (now (memory .exit))) (now (memory .exit) ≡ now (memory .entry)) ⌝ }
 {
     check_point(kept, point, memory, 3)?;
     if number > MAX_WORD {
@@ -77,7 +72,7 @@ pub fn force(kept: u64, point: u64, number: u64, memory: &mut [u64]) -> Result<u
 
 /// A point is freed.
 pub fn free(kept: u64, point: u64, memory: &mut [u64]) -> Result<u64, Refusal>
-    ensures { λ r. ⌜ Answered r (free-refusal kept point (now (memory .entry))) (λ n. (n ≡ 0) × (now (memory .exit) ≡ set (now (memory .entry)) (64 + point) 0) × ((p : Project) → Follows p (free-event point) (now (memory .entry)) (now (memory .exit)))) (now (memory .exit) ≡ now (memory .entry)) ⌝ }
+    ensures { λ r. ⌜ Answered r (free-refusal kept point (now (memory .entry))) (λ n. (n ≡ 0) × Freed point (now (memory .entry)) (now (memory .exit))) (now (memory .exit) ≡ now (memory .entry)) ⌝ }
 {
     check_point(kept, point, memory, 2)?;
     memory[FORCED + point as usize] = 0;
@@ -86,6 +81,7 @@ pub fn free(kept: u64, point: u64, memory: &mut [u64]) -> Result<u64, Refusal>
 
 /// One scan: inputs, the program, the commit of the kept values, outputs. Answers how many writes it handed out.
 /// Whatever the code is, the scan runs it as the machine does; where it is right for a program, that is the program's meaning.
+/// Nothing lent is written before the commit is taken, which is refused for its stamp.
 pub fn scan(
     kept: u64,
     inputs: &[u8],
@@ -134,7 +130,7 @@ pub fn cut(
     check_ready(gone, memory)?;
     let ran = run_program(inputs, code, outside, gone, memory);
     commit_cut(kept as usize, &mut memory[DEVICE..], &ran.values, k, junk)?;
-    clear(memory, 0, DEVICE);
+    power_off(memory);
     Ok(0)
 }
 
@@ -170,6 +166,13 @@ pub fn forced_points_stay() -> u8
 /// Values, outputs and kept values are words, after every history that brings words.
 pub fn words_stay_words() -> u8
     ensures { λ _. ⌜ Words-stay ⌝ }
+{
+    0
+}
+
+/// A stamp rises by at most one with an event: at a hundred scans a second it is refused after more than a billion years.
+pub fn stamps_last() -> u8
+    ensures { λ _. ⌜ Stamps-last ⌝ }
 {
     0
 }

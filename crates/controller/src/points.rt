@@ -1,12 +1,11 @@
-//! Points: what the program sees of them, what goes out at them, and their values in the memory.
+//! Points: what the program sees of them, what goes out at them, and their values at first.
 ghost use mathlib.Core.Path.{_≡_};
-ghost use Prim.Native.Nat.{ℕ, _*_, _<_, _≤_};
-ghost use lib.ListN.{length, getD, take};
-ghost use Rattle.base.specs.Stores.{cells, Overwritten};
+ghost use Prim.Native.Nat.{_<_, _≤_};
+ghost use lib.ListN.{length};
+ghost use Rattle.base.specs.Stores.{cells};
 ghost use Rattle.controller.specs.World.{input-image, output-image};
-ghost use Rattle.controller.specs.Memory.{live-in, flags, input-cell, output-cell, writes-in};
+ghost use Rattle.controller.specs.Memory.{live-in, flags, input-cell, output-cell};
 use crate::layout::*;
-use retain::Write;
 
 /// What the program sees of a point: what it is forced to, what comes from outside, or what it had.
 fn input_point(inputs: &[u8], outside: &[u16], memory: &[u64], i: usize) -> u64
@@ -35,14 +34,14 @@ pub(crate) fn input_points(inputs: &[u8], outside: &[u16], memory: &[u64]) -> [u
 }
 
 /// What goes out at a point: what it is forced to, or what the program put.
-fn output_point(memory: &[u64], values: &[u64], i: usize) -> u64
-    requires { ⌜ 194 ≤ length (now memory) ⌝ ∗ ⌜ length (now values) ≡ 64 ⌝ ∗ ⌜ i < 64 ⌝ }
-    ensures { λ r. ⌜ r ≡ output-cell (now (memory .entry)) (now (values .entry)) i ⌝ }
+fn output_point(memory: &[u64], values: &[u64], point: usize) -> u64
+    requires { ⌜ 194 ≤ length (now memory) ⌝ ∗ ⌜ length (now values) ≡ 64 ⌝ ∗ ⌜ point < 64 ⌝ }
+    ensures { λ r. ⌜ r ≡ output-cell (now (memory .entry)) (now (values .entry)) point ⌝ }
 {
-    if memory[FORCED + i] == 1 {
-        memory[FORCE + i]
+    if memory[FORCED + point] == 1 {
+        memory[FORCE + point]
     } else {
-        values[i]
+        values[point]
     }
 }
 
@@ -68,32 +67,4 @@ pub(crate) fn first_values(firsts: &[u16]) -> [u64; VARIABLES]
         values[i] = firsts[i] as u64;
     }
     values
-}
-
-/// Writes the variables' values to the memory.
-pub(crate) fn store_values(memory: &mut [u64], values: &[u64])
-    requires { ⌜ length (now values) ≡ 64 ⌝ ∗ ⌜ 194 ≤ length (now memory) ⌝ }
-    ensures { λ _. ⌜ Overwritten 0 64 (cells (now (values .entry))) (now (memory .entry)) (now (memory .exit)) ⌝ }
-{
-    memory[0..VARIABLES].copy_from_slice(values);
-}
-
-/// Writes 0 to the cells from `from` to before `to`.
-pub(crate) fn clear(memory: &mut [u64], from: usize, to: usize)
-    requires { ⌜ from ≤ to ⌝ ∗ ⌜ to ≤ length (now memory) ⌝ }
-    ensures { λ _. ⌜ Overwritten from to (λ k. 0) (now (memory .entry)) (now (memory .exit)) ⌝ }
-{
-    memory[from..to].fill(0);
-}
-
-/// Hands out the first `n` writes of a list as pairs of numbers: the place in the device, and the number.
-pub(crate) fn hand_out(list: &[Write], n: usize, writes: &mut [u64])
-    requires { ⌜ n ≤ length (now list) ⌝ ∗ ⌜ 2 * n ≤ length (now writes) ⌝ }
-    ensures handed { λ _. ⌜ writes-in (now (writes .exit)) 0 n ≡ take n (now (list .entry)) ⌝ }
-    ensures beyond { λ _. ⌜ ((i : ℕ) → 2 * n ≤ i → getD (now (writes .exit)) i 0 ≡ getD (now (writes .entry)) i 0) ⌝ }
-{
-    for i in 0..n {
-        writes[2 * i] = list[i].cell as u64;
-        writes[2 * i + 1] = list[i].value;
-    }
 }

@@ -18,7 +18,7 @@ pub(crate) struct Ran {
     pub(crate) lamp: bool,
 }
 
-/// Runs the program once. Code that the machine leaves early has put what it had put till then.
+/// Runs the program once. Where the machine leaves code early, its values are as the code had put them till then.
 pub(crate) fn run_program(
     inputs: &[u8],
     code: &[u16],

@@ -1,3 +1,16 @@
 pub mod Ast
+pub mod Grammar
+pub mod Names
+pub mod Parser
+pub mod Theorems
+pub mod Printer
+pub mod Shape
 pub mod Tree
+pub mod Program
+pub mod Outcomes
+pub mod Printed
+pub mod Expects
 pub mod Node
+pub mod Frames
+pub mod Reading
+pub mod Whole

@@ -84,4 +84,3 @@ pub record Decoded (m : List ℕ) (i : ℕ) (r : Node) : Type 0 where
   pub expr : (e : Expr) → Holds m i e → Is-expr m r e
   pub stmt : (s : Stmt) → Holds-stmt m i s → Is-stmt m r s
   pub setting : (e : Expr) (n : ℕ) → Holds-setting m i e n → Is-setting m r e n
-

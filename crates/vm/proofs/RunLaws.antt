@@ -1,17 +1,17 @@
 -- Laws of a run: one instruction more, and where it stops.
-use mathlib.Core.Path.{_≡_, refl, sym, ap, _∙_}
+use mathlib.Core.Path.{_≡_, refl, sym, ap, subst, _∙_}
 use mathlib.Core.Bool.{Bool, true, false, cond}
 use mathlib.Core.List.{List, [], _∷_}
 use Prim.Native.Nat.{ℕ, zero, suc, _+_, _-_, _*_, _/_, _≤_, _<_}
 use native.Mathlib.Omega.{arith}
 use lib.ListN.{length, getD}
 use Rattle.std.proofs.shelf.Lists.{getD-past}
-use Rattle.std.proofs.shelf.Tests.{cond-false}
+use Rattle.std.proofs.shelf.Tests.{cond-true, cond-false}
 use Rattle.compiler.specs.Instr.{Instr, stop}
 use Rattle.compiler.specs.Machine.{Machine}
 use Rattle.compiler.specs.Code.{code-in}
 use Rattle.vm.specs.Bounds.{bounded-step, bounded-steps}
-use Rattle.vm.specs.State.{Does}
+use Rattle.vm.specs.State.{passed, Does}
 use Rattle.vm.proofs.CodeLaws.{code-length, code-at, instr-at}
 
 -- where an instruction leaves the machine as it is, the run is over
@@ -31,18 +31,27 @@ unfolding bounded-steps
 spent z zero elapsed code m h = refl
 spent z (suc k) elapsed code m h = absurd (omega arith)
 
+-- an instruction that was told to be done
+done : (size elapsed : ℕ) (i : Instr) (m m₁ : Machine) → Does size elapsed i m m₁ true → bounded-step size elapsed i m ≡ m₁
+done size elapsed i m m₁ d = cond-true _ _ _ (sym (d .tells)) ∙ sym (d .does)
+
 -- the rest of a run after an instruction is the run from before it
-pub again : (z k elapsed : ℕ) (xs : List ℕ) (m m₁ : Machine) (told : Bool) → 0 < k → m .pc < length xs / 4 → Does z elapsed (instr-at xs (m .pc * 4)) m m₁ told →
+pub again : (z k elapsed : ℕ) (xs : List ℕ) (m m₁ : Machine) (told : Bool) → 0 < k → m .pc < length xs / 4 → Does z elapsed (instr-at xs (m .pc * 4)) m m₁ told → told ≡ true →
     bounded-steps z (k - 1) elapsed (code-in xs) m₁ ≡ bounded-steps z k elapsed (code-in xs) m
 unfolding bounded-steps
-again z zero elapsed xs m m₁ told h less d = absurd (omega arith)
-again z (suc k) elapsed xs m m₁ told h less d =
+again z zero elapsed xs m m₁ told h less d t = absurd (omega arith)
+again z (suc k) elapsed xs m m₁ told h less d t =
     let e : suc k - 1 ≡ k = omega arith in
-    rw (e, code-at xs (m .pc) less) (ap (bounded-steps z k elapsed (code-in xs)) (d .does))
+    rw (e, code-at xs (m .pc) less) (ap (bounded-steps z k elapsed (code-in xs)) (sym (done z elapsed (instr-at xs (m .pc * 4)) m m₁ (subst (Does z elapsed (instr-at xs (m .pc * 4)) m m₁) t d))))
 
--- an instruction that is not allowed ends the run
+-- a machine at another instruction
+abbrev pub at-pc : ℕ → Machine → Machine
+at-pc pc m = record { pc = pc; stack = m .stack; control = m .control; base = m .base; vars = m .vars; fault = m .fault }
+
+-- an instruction that is not allowed ends the run where it stands
 pub trapped : (z k elapsed : ℕ) (xs : List ℕ) (m m₁ : Machine) (told : Bool) → m .pc < length xs / 4 → Does z elapsed (instr-at xs (m .pc * 4)) m m₁ told → told ≡ false →
-    m₁ ≡ bounded-steps z k elapsed (code-in xs) m
+    at-pc (m .pc) m₁ ≡ bounded-steps z k elapsed (code-in xs) m
 trapped z k elapsed xs m m₁ told less d f =
     let same : bounded-step z elapsed (instr-at xs (m .pc * 4)) m ≡ m = cond-false _ _ _ (sym (d .tells) ∙ f) in
-    d .does ∙ (same ∙ sym (stays z k elapsed (code-in xs) m (ap (λ i. bounded-step z elapsed i m) (code-at xs (m .pc) less) ∙ same)))
+    let left : m₁ ≡ passed m = d .does ∙ cond-false told _ _ f in
+    ap (at-pc (m .pc)) left ∙ sym (stays z k elapsed (code-in xs) m (ap (λ i. bounded-step z elapsed i m) (code-at xs (m .pc) less) ∙ same))

@@ -3,6 +3,7 @@ ghost use mathlib.Core.Path.{_≡_};
 ghost use lib.ListN.{length};
 ghost use Rattle.base.specs.Stores.{cells};
 ghost use Rattle.vm.specs.Outcomes.{values-of, program-of, outcome-of, ended, Runs-right, Code-means, Never-trapped};
+use machine::Items;
 use machine::Vm;
 
 mod machine;
@@ -32,7 +33,11 @@ pub fn run(code: &[u16], elapsed: u64, vars: &mut [u64], fault: &mut u64) -> Out
     ensures right { λ r. ⌜ Runs-right elapsed (now (code .entry)) (now (vars .entry)) (now (fault .entry)) r (now (vars .exit)) (now (fault .exit)) ⌝ }
 {
     let mut vm = Vm::new(*fault);
-    vm.execute(BUDGET, code, elapsed, vars);
+    let mut items = Items {
+        values: [0; 32],
+        control: [0; 8],
+    };
+    vm.execute(&mut items, BUDGET, code, elapsed, vars);
     *fault = vm.fault;
     if vm.pc == code.len() / 4 {
         Outcome::Finished

@@ -42,7 +42,7 @@ returns c =
         refl,
         each-meaning (c .args .code .now) _
             (cut-done (project (c .args .kept) (c .args .inputs .now) (c .args .firsts .now) (program-of 64 (c .args .code .now))) f (c .args .gone) m dev (c .run-program-ran .result .values)
-            (omega (arith, long .1)) size (ready .1 .on) (c .run-program-ran .ensures .values) (c .args .k) (c .args .junk) (c .clear .last .memory)
-            (c .in-Continue-commit-cut .ensures tt .1 .cells-are) (c .clear .ensures)),
+            (omega (arith, long .1)) size (ready .1 .on) (c .run-program-ran .ensures .values) (c .args .k) (c .args .junk) (c .power-off .last .memory)
+            (c .in-Continue-commit-cut .ensures tt .1 .cells-are) (c .power-off .ensures)),
       ),
     )

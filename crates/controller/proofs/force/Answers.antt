@@ -8,4 +8,4 @@ use Rattle.controller.proofs.force.Needs as need
 pub returns : need.returns
 returns c =
     let fits = c .in-Continue-check-point .ensures tt .1 in
-    (search needs, (refl, refl, λ p. follows p _ _ _ (force-state p (c .args .memory .now) (c .args .point) (fits .low) (omega (arith, fits .memory-long)) (fits .on) (c .args .number))))
+    (search needs, (refl, record { written = refl; follows = λ p. follows p _ _ _ (force-state p (c .args .memory .now) (c .args .point) (fits .low) (omega (arith, fits .memory-long)) (fits .on) (c .args .number)) }))

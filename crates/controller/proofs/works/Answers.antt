@@ -24,8 +24,8 @@ returns c =
       c .in-Continue-check-start .ensures tt .0,
       (
         refl,
-        new-done (c .args .kept) (c .args .firsts .now) (c .clear .last .memory) (λ k h. c .clear .ensures .inside k (omega arith) h)
-            (device-same _ _ (λ k h. c .clear .ensures .above k h) ∙ part-device m dev (omega (arith, fits .memory-long)) size ∙ c .in-Continue-format .ensures tt .1 .cells-are
+        new-done (c .args .kept) (c .args .firsts .now) (c .power-off .last .memory) (λ k h. c .power-off .ensures .inside k (omega arith) h)
+            (device-same _ _ (λ k h. c .power-off .ensures .above k h) ∙ part-device m dev (omega (arith, fits .memory-long)) size ∙ c .in-Continue-format .ensures tt .1 .cells-are
             ∙ ap (new-device (c .args .kept)) (c .first-values-values .ensures)),
       ),
     )

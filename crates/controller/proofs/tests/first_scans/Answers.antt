@@ -9,5 +9,5 @@ returns c =
     let new = c .in-Continue-works .ensures tt .1 .1 .history (c .args .inputs .now) means in
     let on = c .in-Continue-start .ensures tt .1 .1 .follows (c .args .inputs .now) means .history _ new in
     let ran = c .in-Continue-scan .ensures tt .1 .right means right .follows .history _ on in
-    let set = c .in-Continue-force .ensures tt .1 .2 p .history _ ran in
+    let set = c .in-Continue-force .ensures tt .1 .1 .follows p .history _ ran in
     s .right means right .told _ set)

@@ -1,0 +1,4 @@
+pub mod Reports
+pub mod Play
+pub mod Running
+pub mod Loading

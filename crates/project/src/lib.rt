@@ -1,0 +1,6 @@
+//! Projects and scripts, from text to text: loaded, played, listed, and messages for people.
+pub mod load;
+pub mod play;
+pub mod report;
+pub mod run;
+mod settings;
