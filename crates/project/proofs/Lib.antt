@@ -6,3 +6,4 @@ pub mod Scenes
 pub mod Steps
 pub mod Playing
 pub mod Arms
+pub mod Loads

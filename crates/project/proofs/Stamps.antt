@@ -73,12 +73,12 @@ module _ (n : ℕ) (d v : Store) where
       let a = current n d in
       let s = suc (stamp n d) in
       let old : apply-writes d (commit-writes n d v) (slot-base n a) ≡ stamp n d =
-          ap (λ ws. apply-writes d ws (slot-base n a)) commit-is
-          ∙ apply-frame (slot-base n (not a)) (slot-base n (not a) + 2 + n) (slot-base n a) _ d (all-within n (not a) s v) (apart n a (slot-base n a) (omega arith) (omega arith))
-          ∙ stamp-is in
+      ap (λ ws. apply-writes d ws (slot-base n a)) commit-is
+      ∙ apply-frame (slot-base n (not a)) (slot-base n (not a) + 2 + n) (slot-base n a) _ d (all-within n (not a) s v) (apart n a (slot-base n a) (omega arith) (omega arith))
+      ∙ stamp-is in
       let new : apply-writes d (commit-writes n d v) (slot-base n (not a)) ≡ s =
-          ap (λ ws. apply-writes d ws (slot-base n (not a))) commit-is
-          ∙ apply-head (slot-base n (not a) + 1) (slot-base n (not a) + 2 + n) (first-write n (not a) s) (later-writes n (not a) s v) d (later-within n (not a) s v) (inl (omega arith)) in
+      ap (λ ws. apply-writes d ws (slot-base n (not a))) commit-is
+      ∙ apply-head (slot-base n (not a) + 1) (slot-base n (not a) + 2 + n) (first-write n (not a) s) (later-writes n (not a) s v) d (later-within n (not a) s v) (inl (omega arith)) in
       stamp-below n (apply-writes d (commit-writes n d v)) a s (omega (arith, old)) (λ _. omega (arith, new))
 
   module _ (sound : Sound n d) (j : ℕ) where
@@ -98,10 +98,10 @@ module _ (n : ℕ) (d v : Store) where
     begun k e =
         let b = not (current n d) in
         let new : cut-writes d (commit-writes n d v) k j (slot-base n b) ≡ suc (stamp n d) =
-            ap (λ ws. cut-writes d ws k j (slot-base n b)) commit-is
-            ∙ ap (λ x. x (slot-base n b)) (cut-skip (first-write n b (suc (stamp n d))) (later-writes n b (suc (stamp n d)) v) d k j e)
-            ∙ cut-frame (slot-base n b + 1) (slot-base n b + 2 + n) (slot-base n b) _ d k j (later-within n b (suc (stamp n d)) v) (inl (omega arith))
-            ∙ e in
+        ap (λ ws. cut-writes d ws k j (slot-base n b)) commit-is
+        ∙ ap (λ x. x (slot-base n b)) (cut-skip (first-write n b (suc (stamp n d))) (later-writes n b (suc (stamp n d)) v) d k j e)
+        ∙ cut-frame (slot-base n b + 1) (slot-base n b + 2 + n) (slot-base n b) _ d k j (later-within n b (suc (stamp n d)) v) (inl (omega arith))
+        ∙ e in
         below k (λ _. omega (arith, new))
 
     -- its first stamp is written whole
@@ -111,10 +111,10 @@ module _ (n : ℕ) (d v : Store) where
         let b = not (current n d) in
         let s = suc (stamp n d) in
         let new : cut-writes d (commit-writes n d v) (suc k) j (slot-base n b) ≡ s =
-            ap (λ ws. cut-writes d ws (suc k) j (slot-base n b)) commit-is
-            ∙ ap (λ x. x (slot-base n b)) (cond-false (eqb (d (slot-base n b)) s) (cut-writes d (later-writes n b s v) (suc k) j) (cut-writes (update d (slot-base n b) s) (later-writes n b s v) k j) e)
-            ∙ cut-frame (slot-base n b + 1) (slot-base n b + 2 + n) (slot-base n b) _ (update d (slot-base n b) s) k j (later-within n b s v) (inl (omega arith))
-            ∙ update-same d (slot-base n b) s (slot-base n b) refl in
+        ap (λ ws. cut-writes d ws (suc k) j (slot-base n b)) commit-is
+        ∙ ap (λ x. x (slot-base n b)) (cond-false (eqb (d (slot-base n b)) s) (cut-writes d (later-writes n b s v) (suc k) j) (cut-writes (update d (slot-base n b) s) (later-writes n b s v) k j) e)
+        ∙ cut-frame (slot-base n b + 1) (slot-base n b + 2 + n) (slot-base n b) _ (update d (slot-base n b) s) k j (later-within n b s v) (inl (omega arith))
+        ∙ update-same d (slot-base n b) s (slot-base n b) refl in
         below (suc k) (λ _. omega (arith, new))
 
     -- or it holds junk: then the slot is read only if the junk is its second stamp, which is older
@@ -124,13 +124,13 @@ module _ (n : ℕ) (d v : Store) where
         let b = not (current n d) in
         let s = suc (stamp n d) in
         let cut-is : cut-writes d (commit-writes n d v) 0 j ≡ update d (slot-base n b) j =
-            ap (λ ws. cut-writes d ws 0 j) commit-is ∙ cond-false (eqb (d (slot-base n b)) s) (cut-writes d (later-writes n b s v) 0 j) (update d (slot-base n b) j) e in
+        ap (λ ws. cut-writes d ws 0 j) commit-is ∙ cond-false (eqb (d (slot-base n b)) s) (cut-writes d (later-writes n b s v) 0 j) (update d (slot-base n b) j) e in
         let second : cut-writes d (commit-writes n d v) 0 j (slot-base n b + 1 + n) ≡ d (slot-base n b + 1 + n) =
-            ap (λ x. x (slot-base n b + 1 + n)) cut-is ∙ update-other d (slot-base n b) j (slot-base n b + 1 + n) (λ q. omega arith) in
+        ap (λ x. x (slot-base n b + 1 + n)) cut-is ∙ update-other d (slot-base n b) j (slot-base n b + 1 + n) (λ q. omega arith) in
         below 0 (λ q.
-            let both : cut-writes d (commit-writes n d v) 0 j (slot-base n b) ≡ cut-writes d (commit-writes n d v) 0 j (slot-base n b + 1 + n) =
-                eqb-true _ _ (and-parts _ _ (subst (λ x. valid n (cut-writes d (commit-writes n d v) 0 j) x ≡ true) q (cut-keeps n d v 0 j sound .0 .whole)) .0) in
-            ⊎-elim (λ x. omega (arith, both, second, x)) (λ x. absurd (eqb-false _ _ e (x .0))) (sound .other))
+        let both : cut-writes d (commit-writes n d v) 0 j (slot-base n b) ≡ cut-writes d (commit-writes n d v) 0 j (slot-base n b + 1 + n) =
+        eqb-true _ _ (and-parts _ _ (subst (λ x. valid n (cut-writes d (commit-writes n d v) 0 j) x ≡ true) q (cut-keeps n d v 0 j sound .0 .whole)) .0) in
+        ⊎-elim (λ x. omega (arith, both, second, x)) (λ x. absurd (eqb-false _ _ e (x .0))) (sound .other))
 
     pub cut-stamp : (k : ℕ) → stamp n (cut-writes d (commit-writes n d v) k j) ≤ suc (stamp n d)
     cut-stamp zero = ⊎-elim (λ e. begun 0 (eqb-true _ _ e)) junked (cases-bool (eqb (d (slot-base n (not (current n d)))) (suc (stamp n d))))

@@ -33,6 +33,8 @@ use Rattle.formats.specs.Script.{Request, request, read-script}
 use Rattle.project.specs.declared.load.Failure.{Failure}
 use Rattle.project.specs.declared.load.Failure.the-variants.{Memory, Header, Program, Script}
 use Rattle.project.specs.declared.load.Loaded.{Loaded}
+use Rattle.project.specs.declared.run.RunError.{RunError}
+use Rattle.project.specs.declared.run.RunError.the-variants.{Memory as No-memory, Kept}
 use Rattle.project.specs.Play.{played}
 
 -- a text is cut into these tokens, and they are not too many
@@ -138,6 +140,11 @@ Not-played project script Memory = Unit {0}
 Not-played project script (Header e) = Header-refused project e
 Not-played project script (Program e) = Program-refused project e
 Not-played project script (Script e) = ((h : Plan) × (s : Stmt) × Taken project h s) × Script-refused script e
+
+-- why events were not played, as a failure of the project
+abbrev pub failure-of : RunError → Failure
+failure-of No-memory = Memory
+failure-of Kept = Header (Length 0)
 
 -- what `play` answers
 abbrev pub Plays : (project script : List ℕ) → Result (String Global) Failure → Type 0

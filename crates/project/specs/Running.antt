@@ -7,6 +7,8 @@ use Rattle.std.specs.declared.alloc.Global.{Global}
 use Rattle.std.specs.declared.result.Result.{Result}
 use Rattle.std.specs.declared.result.Result.the-variants.{Ok, Err}
 use Rattle.std.specs.declared.vec.Vec.{Vec}
+use Rattle.std.specs.declared.string.String.{String}
+use Rattle.std.specs.Of.String.{string-bytes}
 use Rattle.std.specs.Of.Vec.{vec-items}
 use Rattle.base.specs.Stores.{cells}
 use Rattle.semantics.specs.Eval.{Program}
@@ -23,7 +25,7 @@ use Rattle.project.specs.declared.report.Report.{Report}
 use Rattle.project.specs.declared.run.RunError.{RunError}
 use Rattle.project.specs.declared.run.RunError.the-variants.{Memory, Kept}
 use Rattle.project.specs.Reports.{Said, said}
-use Rattle.project.specs.Play.{Scene, event-of, act, report, taken, tells}
+use Rattle.project.specs.Play.{Scene, event-of, act, report, taken, tells, played}
 
 -- the scene after a history, with what was said of the inputs and what was last shown
 abbrev pub scene-of : Project → List Event → (outside shown : List ℕ) → Scene
@@ -61,3 +63,14 @@ abbrev pub Runs : (kept : ℕ) → (inputs firsts code : List ℕ) → List Line
 Runs kept inputs firsts code lines (Ok v) = (kept ≤ 64) × Told kept inputs firsts code lines (map said (vec-items v))
 Runs kept inputs firsts code lines (Err Kept) = 64 < kept
 Runs kept inputs firsts code lines (Err Memory) = Unit {0}
+
+-- a text is the one that the story tells, for every program that the code is right for
+abbrev pub Told-text : (kept : ℕ) → (inputs firsts code : List ℕ) → List Line → List ℕ → Type 0
+Told-text kept inputs firsts code lines text =
+    (means : Program) → Compiled 64 means code → text ≡ played (project kept inputs firsts means) (map request lines)
+
+-- a whole run as a text: so it is with what is written
+abbrev pub Writes : (kept : ℕ) → (inputs firsts code : List ℕ) → List Line → Result (String Global) RunError → Type 0
+Writes kept inputs firsts code lines (Ok s) = (kept ≤ 64) × Told-text kept inputs firsts code lines (string-bytes s)
+Writes kept inputs firsts code lines (Err Kept) = 64 < kept
+Writes kept inputs firsts code lines (Err Memory) = Unit {0}

@@ -4,3 +4,5 @@ pub mod play;
 pub mod report;
 pub mod run;
 mod settings;
+#[cfg(test)]
+mod tests;

@@ -2,6 +2,7 @@
 ghost use mathlib.Core.Path.{_≡_};
 ghost use Rattle.project.specs.Loading.{Cut-into, Coded-for, Loads};
 use base::Refusal;
+use base::RefusalDebug;
 use compiler::make;
 use formats::header::read_project;
 use formats::words::ReadError;

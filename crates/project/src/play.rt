@@ -1,11 +1,10 @@
 //! A project and a script, played: from text to text.
 ghost use mathlib.Core.Path.{_≡_};
-ghost use Rattle.project.specs.Loading.{Events-of, Plays};
+ghost use Rattle.project.specs.Loading.{Events-of, failure-of, Plays};
 use crate::load::Failure;
 use crate::load::load;
-use crate::report::render;
 use crate::run::RunError;
-use crate::run::run_events;
+use crate::run::play_events;
 use base::Refusal;
 use formats::script::Event;
 use formats::script::read_script;
@@ -23,13 +22,23 @@ pub fn events_of(heap: Global, script: &str) -> Result<Vec<Event>, Failure>
     }
 }
 
+/// Why events were not played, as a failure of the project.
+fn failure_of(error: RunError) -> Failure
+    ensures { λ r. ⌜ r ≡ failure-of error ⌝ }
+{
+    match error {
+        RunError::Memory => Failure::Memory,
+        RunError::Kept => Failure::Header(Refusal::Length(0)),
+    }
+}
+
 /// What a script's events lead to in a project, as the text that a player prints.
 pub fn play(heap: Global, project: &str, script: &str) -> Result<String, Failure>
     ensures { λ r. ⌜ Plays (now (project .entry)) (now (script .entry)) r ⌝ }
 {
     let loaded = load(heap, project)?;
     let events = events_of(heap, script)?;
-    let ran = run_events(
+    let played = play_events(
         heap,
         loaded.kept,
         &loaded.inputs,
@@ -37,13 +46,8 @@ pub fn play(heap: Global, project: &str, script: &str) -> Result<String, Failure
         loaded.code.as_slice(),
         events.as_slice(),
     );
-    let reports = match ran {
-        Ok(reports) => reports,
-        Err(RunError::Memory) => return Err(Failure::Memory),
-        Err(RunError::Kept) => return Err(Failure::Header(Refusal::Length(0))),
-    };
-    match render(heap, reports.as_slice()) {
+    match played {
         Ok(text) => Ok(text),
-        Err(_) => Err(Failure::Memory),
+        Err(error) => Err(failure_of(error)),
     }
 }

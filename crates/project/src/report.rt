@@ -81,7 +81,12 @@ fn lamp_words(lamp: bool) -> &'static str
 }
 
 /// Adds the settings of a scan, and the lamp.
-fn push_scan(out: &mut String, heap: Global, settings: &[Setting], lamp: bool) -> Result<(), AllocError>
+fn push_scan(
+    out: &mut String,
+    heap: Global,
+    settings: &[Setting],
+    lamp: bool,
+) -> Result<(), AllocError>
     ensures { λ r. ⌜ made r (λ _. string-bytes (now (out .exit)) ≡ string-bytes (now (out .entry)) ++ (codes "scan:" ++ (joined spaced (now (settings .entry)) ++ (lamp-text lamp ++ codes "\n")))) ⌝ }
 {
     out.push_str("scan:")?;

@@ -8,18 +8,19 @@ ghost use lib.ListN.{length, getD};
 ghost use Rattle.controller.specs.Layout.{memory-length};
 ghost use Rattle.formats.specs.Script.{request, start as start-line, scan as scan-line, cut as cut-line, force as force-line, free as free-line};
 ghost use Rattle.project.specs.Reports.{said};
-ghost use Rattle.project.specs.Running.{Goes, Goes-noted, Told, Runs};
+ghost use Rattle.project.specs.Running.{Goes, Goes-noted, Told, Runs, Writes};
 ghost use Rattle.std.specs.Of.Vec.{vec-items};
 ghost use Rattle.std.specs.Vec.{listOf, made};
+use crate::report::Report;
+use crate::report::refused;
+use crate::report::render;
+use crate::settings::*;
 use controller::cut;
 use controller::force;
 use controller::free;
 use controller::scan;
 use controller::start;
 use controller::works;
-use crate::report::Report;
-use crate::report::refused;
-use crate::settings::*;
 use formats::script::Event;
 use formats::script::Input;
 use formats::script::note_inputs;
@@ -101,7 +102,17 @@ fn play_scan(
     let mut out = [0; VARIABLES];
     let mut writes = [0; WRITES];
     let end = 2 * (size as usize + 2);
-    match scan(size, inputs, firsts, code, outside, elapsed, memory, &mut out, &mut writes[..end]) {
+    match scan(
+        size,
+        inputs,
+        firsts,
+        code,
+        outside,
+        elapsed,
+        memory,
+        &mut out,
+        &mut writes[..end],
+    ) {
         Err(refusal) => Ok(Some(refused(refusal))),
         Ok(_) => {
             let changed = changed_settings(heap, shown, &out)?;
@@ -127,7 +138,17 @@ fn play_cut(
     requires { ⌜ size ≤ 64 ⌝ ∗ ⌜ length (now memory) ≡ memory-length size ⌝ }
     ensures { λ r. ⌜ ((shown : List ℕ) → Goes-noted size (now (inputs .entry)) (now (firsts .entry)) (now (code .entry)) (cut-line elapsed at junk) (now (memory .entry)) (now (outside .entry)) shown (now (memory .exit)) shown (map said (listOf r))) ⌝ }
 {
-    match cut(size, inputs, firsts, code, outside, elapsed, at, junk, memory) {
+    match cut(
+        size,
+        inputs,
+        firsts,
+        code,
+        outside,
+        elapsed,
+        at,
+        junk,
+        memory,
+    ) {
         Err(refusal) => Some(refused(refusal)),
         Ok(_) => None,
     }
@@ -172,13 +193,41 @@ fn play_event(
 {
     match event {
         Event::Start => play_start(heap, size, firsts, memory, shown),
-        Event::Scan { elapsed, inputs: named } => {
+        Event::Scan {
+            elapsed,
+            inputs: named,
+        } => {
             note_inputs(outside, named.as_slice());
-            play_scan(heap, size, inputs, firsts, code, *elapsed, memory, outside, shown)
+            play_scan(
+                heap,
+                size,
+                inputs,
+                firsts,
+                code,
+                *elapsed,
+                memory,
+                outside,
+                shown,
+            )
         }
-        Event::Cut { elapsed, at, junk, inputs: named } => {
+        Event::Cut {
+            elapsed,
+            at,
+            junk,
+            inputs: named,
+        } => {
             note_inputs(outside, named.as_slice());
-            Ok(play_cut(size, inputs, firsts, code, *elapsed, *at, *junk, memory, outside))
+            Ok(play_cut(
+                size,
+                inputs,
+                firsts,
+                code,
+                *elapsed,
+                *at,
+                *junk,
+                memory,
+                outside,
+            ))
         }
         Event::Force { point, number } => Ok(play_force(size, *point, *number, memory)),
         Event::Free { point } => Ok(play_free(size, *point, memory)),
@@ -203,7 +252,17 @@ fn play_all(
     let mut shown = [0; VARIABLES];
     let _ = works(size, firsts, memory);
     for event in events {
-        if let Some(report) = play_event(heap, size, inputs, firsts, code, event, memory, &mut outside, &mut shown)? {
+        if let Some(report) = play_event(
+            heap,
+            size,
+            inputs,
+            firsts,
+            code,
+            event,
+            memory,
+            &mut outside,
+            &mut shown,
+        )? {
             reports.push(report)?;
         }
     }
@@ -231,6 +290,24 @@ pub fn run_events(
     let end = 194 + 2 * (kept as usize + 2);
     match play_all(heap, kept, inputs, firsts, code, events, &mut memory[..end]) {
         Ok(reports) => Ok(reports),
+        Err(_) => Err(RunError::Memory),
+    }
+}
+
+/// Plays events through a controller of its own, and writes what is reported of them, a line each.
+pub fn play_events(
+    heap: Global,
+    kept: u64,
+    inputs: &[u8; 64],
+    firsts: &[u16; 64],
+    code: &[u16],
+    events: &[Event],
+) -> Result<String, RunError>
+    ensures { λ r. ⌜ Writes kept (now (inputs .entry)) (now (firsts .entry)) (now (code .entry)) (now (events .entry)) r ⌝ }
+{
+    let reports = run_events(heap, kept, inputs, firsts, code, events)?;
+    match render(heap, reports.as_slice()) {
+        Ok(text) => Ok(text),
         Err(_) => Err(RunError::Memory),
     }
 }

@@ -26,27 +26,41 @@ pub(crate) fn values_in(memory: &[u64]) -> [u64; VARIABLES]
 }
 
 /// The first variables with their values.
-pub(crate) fn first_settings(heap: Global, count: usize, values: &[u64]) -> Result<Vec<Setting>, AllocError>
+pub(crate) fn first_settings(
+    heap: Global,
+    count: usize,
+    values: &[u64],
+) -> Result<Vec<Setting>, AllocError>
     requires { ⌜ count ≤ 64 ⌝ ∗ ⌜ count ≤ length (now values) ⌝ }
     ensures { λ r. ⌜ made r (λ v. vec-items v ≡ values-from 0 count (cells (now (values .entry)))) ⌝ }
 {
     let mut all = Vec::new(heap);
     for i in 0..count {
         let variable = i as u8;
-        all.push(Setting { variable, value: values[i] })?;
+        all.push(Setting {
+            variable,
+            value: values[i],
+        })?;
     }
     Ok(all)
 }
 
 /// The variables that show another value than before.
-pub(crate) fn changed_settings(heap: Global, before: &[u64; VARIABLES], shown: &[u64; VARIABLES]) -> Result<Vec<Setting>, AllocError>
+pub(crate) fn changed_settings(
+    heap: Global,
+    before: &[u64; VARIABLES],
+    shown: &[u64; VARIABLES],
+) -> Result<Vec<Setting>, AllocError>
     ensures { λ r. ⌜ made r (λ v. vec-items v ≡ changed-from 0 64 (cells (now (before .entry))) (cells (now (shown .entry)))) ⌝ }
 {
     let mut all = Vec::new(heap);
     for i in 0..VARIABLES {
         if shown[i] != before[i] {
             let variable = i as u8;
-            all.push(Setting { variable, value: shown[i] })?;
+            all.push(Setting {
+                variable,
+                value: shown[i],
+            })?;
         }
     }
     Ok(all)

@@ -11,4 +11,4 @@ returns-in-Err c inputs firsts code outside shown =
 pub returns-in-Ok : need.returns-in-Ok
 returns-in-Ok c inputs firsts code outside shown =
     free-taken (c .args .size) (c .pre .0) (c .args .memory .now) (c .pre .1) _ _ refl inputs firsts code outside shown
-    (c .args .point) (c .in-Ok .ensures tt .0) (c .in-Ok .ensures tt .1 .2)
+    (c .args .point) (c .in-Ok .ensures tt .0) (c .in-Ok .ensures tt .1 .1 .follows)

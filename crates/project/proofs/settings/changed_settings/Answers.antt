@@ -15,8 +15,8 @@ loop-i-again c =
     let h : i < 64 = c .loop-i-test .taken in
     let done = vec-items (c .loop-i .all) in
     elim (c .if-shown-i .came) [
-      then-shown-i·in-Continue-push w ↦ changed-more _ f g i 64 done (c .loop-i .inv) _ h (w .if-shown-i .taken) (ap vec-items (w .all-is) ∙ w .in-Continue-push .ensures tt .items)
-    | else-shown-i w ↦ changed-same _ f g i 64 done (c .loop-i .inv) _ h (w .if-shown-i .left) (ap vec-items (w .all-is))
+      | then-shown-i·in-Continue-push w ↦ changed-more _ f g i 64 done (c .loop-i .inv) _ h (w .if-shown-i .taken) (ap vec-items (w .all-is) ∙ w .in-Continue-push .ensures tt .items)
+      | else-shown-i w ↦ changed-same _ f g i 64 done (c .loop-i .inv) _ h (w .if-shown-i .left) (ap vec-items (w .all-is))
     ]
 
 pub returns : need.returns
