@@ -6,3 +6,4 @@ pub mod PairLaws
 pub mod Passes
 pub mod Blanks
 pub mod Places
+pub mod Beginnings

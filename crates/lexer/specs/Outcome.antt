@@ -62,3 +62,18 @@ Refused text room (Point p) = ⊥
 abbrev pub Tokenized : (text room : List ℕ) → Result ℕ Refusal → List ℕ → Type 0
 Tokenized text room (Ok n) room₁ = Written text room room₁ n × (n ≤ 4096) × (length room ≡ 8192)
 Tokenized text room (Err e) room₁ = Refused text room e × (room₁ ≡ room)
+
+-- token number i of the text, counted from 0, begins at the place p
+pub record Begins (text : List ℕ) (i p : ℕ) : Type 0 where
+  pub front : List ℕ
+  pub rest : List ℕ
+  pub tokens : List Token
+  pub split : front ++ rest ≡ text
+  pub place : length front ≡ p
+  pub solid : blank (getD rest 0 0) ≡ false
+  pub cuts : Cuts front tokens rest
+  pub count : length tokens ≡ i
+
+-- the place of a token in a text: it is in the text, and where the text has this token it begins there
+abbrev pub Place-of-token : (text : List ℕ) → (i p : ℕ) → Type 0
+Place-of-token text i p = (p ≤ length text) × ((n : ℕ) → Whole text n → i < n → Begins text i p)

@@ -3,7 +3,7 @@ ghost use mathlib.Core.Path.{_≡_};
 ghost use Prim.Native.Nat.{_*_, _≤_};
 ghost use lib.ListN.{length};
 ghost use Rattle.lexer.specs.Token.{blank};
-ghost use Rattle.lexer.specs.Outcome.{Counted, Whole, Written};
+ghost use Rattle.lexer.specs.Outcome.{Counted, Whole, Written, Place-of-token};
 use super::piece::token_at;
 use base::Refusal;
 
@@ -38,6 +38,34 @@ pub(crate) fn count(text: &[u8]) -> Result<u64, Refusal>
         }
     }
     Ok(n)
+}
+
+/// Where token `index` begins; the text's length where there are fewer.
+pub(crate) fn place(text: &[u8], index: u64) -> usize
+    ensures { λ r. ⌜ Place-of-token (now (text .entry)) index r ⌝ }
+{
+    let mut i = 0;
+    let mut n = 0;
+    while i < text.len() {
+        if is_blank(text[i]) {
+            i += 1;
+        } else {
+            if n == index {
+                return i;
+            }
+            if n == MOST_TOKENS {
+                return text.len();
+            }
+            match token_at(text, i) {
+                Some((_, end)) => {
+                    n += 1;
+                    i = end;
+                }
+                None => return text.len(),
+            }
+        }
+    }
+    text.len()
 }
 
 /// Writes the tokens of a text that has `n` of them.

@@ -1,6 +1,6 @@
 //! A text cut into tokens, which are written to a lent room as pairs of numbers.
 ghost use mathlib.Core.Path.{_≡_};
-ghost use Rattle.lexer.specs.Outcome.{Tokenized};
+ghost use Rattle.lexer.specs.Outcome.{Tokenized, Place-of-token};
 ghost use Rattle.lexer.specs.Laws.{One-way, One-place, Refused-rightly, Place-in-characters, Blanks-alike, Blanks-between, Pairs-back, Pair-is-token, One-pair};
 use base::Op;
 use base::OpDebug;
@@ -57,6 +57,13 @@ pub fn tokenize(text: &str, room: &mut [u16]) -> Result<u64, Refusal>
     }
     cut::write(bytes, room, n);
     Ok(n)
+}
+
+/// Where token `index` of a text begins; the text's length where there are fewer. For messages.
+pub fn token_place(text: &str, index: u64) -> usize
+    ensures { λ r. ⌜ Place-of-token (now (text .entry)) index r ⌝ }
+{
+    cut::place(text.as_bytes(), index)
 }
 
 /// A text is cut in at most one way.
@@ -141,6 +148,13 @@ mod tests {
         check_eq(tokenize("1 + 2", &mut room), Err(Refusal::Length(1)))?;
         check_eq(tokenize("1 + ?", &mut room), Err(Refusal::Token(4)))?;
         check_eq(room, [9, 9, 9, 9])
+    }
+
+    #[test]
+    fn finds_where_a_token_begins() -> Result<(), Fail> {
+        check_eq(token_place(" v1 :=\n 12;", 0), 1)?;
+        check_eq(token_place(" v1 :=\n 12;", 2), 8)?;
+        check_eq(token_place(" v1 :=\n 12;", 4), 11)
     }
 
     #[test]

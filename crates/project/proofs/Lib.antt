@@ -7,3 +7,4 @@ pub mod Steps
 pub mod Playing
 pub mod Arms
 pub mod Loads
+pub mod Measuring

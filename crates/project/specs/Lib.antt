@@ -2,3 +2,4 @@ pub mod Reports
 pub mod Play
 pub mod Running
 pub mod Loading
+pub mod Listing
