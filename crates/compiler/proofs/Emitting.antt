@@ -12,7 +12,6 @@ use Rattle.compiler.specs.Emitted.{Appends, Puts, Reserves, Patches}
 use Rattle.compiler.proofs.Writes.{write-then, words-swap, length-write}
 
 infixr 30 _then_
-
 -- four writes, as the code makes them
 pub write-four : (room : List ℕ) (p k a b c : ℕ) → set (set (set (set room p k) (p + 1) a) (p + 2) b) (p + 3) c ≡ write room p (k ∷ a ∷ b ∷ c ∷ [])
 unfolding write
@@ -121,10 +120,11 @@ appends-branch e x y {m} {m₁} {n₁} {m₂} {n₂} {m₃} {m₄} {m₅} {at} {
         let l₃ : length m₃ ≡ length m = ap length c₂ ∙ length-write m₂ p₄ (words y) ∙ l₂ in
         let u₂ = u .wrote (omega (arith, s .here)) in
         let l₄ : length m₄ ≡ length m = ap length u₂ ∙ length-write m₃ join _ ∙ l₃ in
-        let v₂ = v .wrote (omega (arith, r .here, u .ends)) in
-        (omega (arith, size, u .ends, v .ends),
-         v₂ ∙ ap (λ (q : List ℕ). write q test (6 ∷ past ∷ 0 ∷ 0 ∷ [])) u₂
-         ∙ patched m at test p₂ join p₄ p₅ over past e x y over-is past-is (r .here ∙ a₁) (omega (arith, r .here)) (s .here ∙ b₁) (omega (arith, s .here)) c₁ a₂ b₂ c₂)
+        let v₂ = v .wrote (omega (arith, r .here, u .ends)) in (
+          omega (arith, size, u .ends, v .ends),
+          v₂ ∙ ap (λ (q : List ℕ). write q test (6 ∷ past ∷ 0 ∷ 0 ∷ [])) u₂
+              ∙ patched m at test p₂ join p₄ p₅ over past e x y over-is past-is (r .here ∙ a₁) (omega (arith, r .here)) (s .here ∙ b₁) (omega (arith, s .here)) c₁ a₂ b₂ c₂,
+        )
 
 -- a repetition, whose beginning is written last
 pub appends-repeat : (n : ℕ) (x : List Instr) {m n₀ m₁ m₂ m₃ : List ℕ} {at p₁ p₂ p₃ p₄ head size : ℕ} → size ≡ (p₂ - head) / 4 →

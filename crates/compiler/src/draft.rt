@@ -27,7 +27,10 @@ impl Draft {
         ensures empty { λ r. ⌜ r .len ≡ 0 ⌝ }
         ensures room { λ r. ⌜ length (r .numbers) ≡ 16384 ⌝ }
     {
-        Draft { numbers: [0; ROOM], len: 0 }
+        Draft {
+            numbers: [0; ROOM],
+            len: 0,
+        }
     }
 
     /// The place of the next instruction.

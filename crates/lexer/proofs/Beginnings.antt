@@ -14,16 +14,19 @@ use Rattle.lexer.proofs.Cutting.{one-way, refused-rightly}
 
 -- the first i bytes are cut into as many tokens, and the next byte is no blank
 pub begins : (text : List ℕ) (i n : ℕ) → i < length text → blank (getD text i 0) ≡ false → Sofar text i n → Place-of-token text n i
-begins text i n h solid s = (s .within, λ _ _ _. record {
-  front = take i text;
-  rest = drop i text;
-  tokens = s .tokens;
-  split = take-append-drop i text;
-  place = length-take-le i text (s .within);
-  solid = ap (λ l. blank (getD l 0 0)) (drop-more text i 0 h) ∙ solid;
-  cuts = s .cuts;
-  count = s .count;
-})
+begins text i n h solid s = (
+  s .within,
+  λ _ _ _. record {
+    front = take i text;
+    rest = drop i text;
+    tokens = s .tokens;
+    split = take-append-drop i text;
+    place = length-take-le i text (s .within);
+    solid = ap (λ l. blank (getD l 0 0)) (drop-more text i 0 h) ∙ solid;
+    cuts = s .cuts;
+    count = s .count;
+  },
+)
 
 -- a text that can't be cut has no such token
 pub not-cut : (text : List ℕ) (i n index : ℕ) → i < length text → blank (getD text i 0) ≡ false → (n ≡ 4096) ⊎ Stuck (drop i text) → Sofar text i n → Place-of-token text index (length text)
@@ -31,7 +34,10 @@ not-cut text i n index h solid w s = (omega arith, λ m whole _. absurd (refused
 
 -- nor has one with no more tokens than that
 pub too-few : (text : List ℕ) (i n index : ℕ) → length text ≤ i → n ≤ index → Sofar text i n → Place-of-token text index (length text)
-too-few text i n index h low s = (omega arith, λ m whole more.
-    let all = counted text i n h s in
-    let same : n ≡ m = sym (all .count) ∙ ap length (one-way text (all .tokens) (whole .tokens) (all .cuts) (whole .cuts)) ∙ whole .count in
-    absurd (omega arith))
+too-few text i n index h low s = (
+  omega arith,
+  λ m whole more.
+      let all = counted text i n h s in
+      let same : n ≡ m = sym (all .count) ∙ ap length (one-way text (all .tokens) (whole .tokens) (all .cuts) (whole .cuts)) ∙ whole .count in
+      absurd (omega arith),
+)

@@ -29,7 +29,13 @@ fn main(rt: LibcRuntime) -> Result<(), AnyError> {
             Ok(())
         }
         Err(failure) => {
-            let line = message(heap, path.as_str(), project.as_str(), script.as_str(), &failure)?;
+            let line = message(
+                heap,
+                path.as_str(),
+                project.as_str(),
+                script.as_str(),
+                &failure,
+            )?;
             eprintln!(rt, "{line}")?;
             Err("refused".into())
         }

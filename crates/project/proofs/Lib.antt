@@ -8,3 +8,4 @@ pub mod Playing
 pub mod Arms
 pub mod Loads
 pub mod Measuring
+pub mod Pointing

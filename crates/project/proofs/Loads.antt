@@ -85,8 +85,7 @@ uncoded xs room (Point p) small l h short text ts c q = absurd h
 pub coded : (xs room room′ : List ℕ) (n : ℕ) (code : List ℕ) → Made xs room n room′ → ((s : Stmt) → Reads (tokens-in xs) s → Compiled 64 (meaning s) (take (4 * n) room′)) → code ≡ take (4 * n - 0) room′ →
     (ts : List Token) → xs ≡ pairs ts → (s : Stmt) × Reads ts s × Fits (stmt-need s) × Compiled 64 (meaning s) code
 coded xs room room′ n code m right e ts q =
-    let all : 4 * n - 0 ≡ 4 * n = omega arith in
-    (
+    let all : 4 * n - 0 ≡ 4 * n = omega arith in (
       m .program,
       subst (λ (v : List Token). Reads v (m .program)) (ap tokens-in q ∙ pairs-back ts) (m .reads),
       m .coded .fits,
@@ -98,7 +97,7 @@ pub played-so : (text script : List ℕ) (l : Loaded) (lines : List Event) (answ
     Told-text (l .kept) (l .inputs) (l .firsts) (vec-items (l .code)) lines (string-bytes answer) → Played text script answer
 played-so text script l lines answer r read told =
     let same : played (project (l .kept) (l .inputs) (l .firsts) (meaning (r .program))) (map request lines) ≡ played (project (r .plan .kept) (r .plan .inputs) (r .plan .firsts) (meaning (r .program))) (map request lines) =
-        λ i. played (project (r .same-kept i) (r .same-inputs i) (r .same-firsts i) (meaning (r .program))) (map request lines) in
+    λ i. played (project (r .same-kept i) (r .same-inputs i) (r .same-firsts i) (meaning (r .program))) (map request lines) in
     record {
       plan = r .plan;
       program = r .program;

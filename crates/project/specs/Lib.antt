@@ -3,3 +3,4 @@ pub mod Play
 pub mod Running
 pub mod Loading
 pub mod Listing
+pub mod Messages

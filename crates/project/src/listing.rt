@@ -1,9 +1,9 @@
 //! A project's program as the listing that a maker prints.
 ghost use Rattle.project.specs.Listing.{Lists, Needs-in, Needs-of};
-use base::Refusal;
 use crate::load::Failure;
 use crate::load::load;
 use crate::load::tokens_of;
+use base::Refusal;
 use formats::header::read_project;
 use formats::listing::listing_text;
 use formats::words::ReadError;
@@ -43,7 +43,13 @@ pub fn listing(heap: Global, project: &str) -> Result<String, Failure>
 {
     let loaded = load(heap, project)?;
     let need = needs_of(heap, project)?;
-    match listing_text(heap, loaded.code.as_slice(), need.cost, need.height, need.depth) {
+    match listing_text(
+        heap,
+        loaded.code.as_slice(),
+        need.cost,
+        need.height,
+        need.depth,
+    ) {
         Ok(text) => Ok(text),
         Err(_) => Err(Failure::Memory),
     }

@@ -1,9 +1,10 @@
 //! The line that a refused project or script ends a program with.
-ghost use mathlib.Core.Path.{_≡_};
-ghost use Rattle.formats.specs.MessageText.{message as message-of};
-use base::Refusal;
+ghost use Rattle.project.specs.Messages.{Points, Says};
+ghost use Rattle.std.specs.Of.String.{string-bytes};
+ghost use Rattle.std.specs.Vec.{made};
 use crate::load::Failure;
 use crate::load::tokens_of;
+use base::Refusal;
 use formats::header::read_project;
 use formats::message::message as line_of;
 use formats::message::place_of_line;
@@ -126,7 +127,11 @@ fn uncut_words(program: &str, place: usize) -> &'static str {
 /// Where in a project's text something in its program stands: the end of the text where that would be past it.
 fn place_within(text: &str, at: usize, place: usize) -> usize {
     let end = text.len();
-    if at > end || place > end - at { end } else { at + place }
+    if at > end || place > end - at {
+        end
+    } else {
+        at + place
+    }
 }
 
 /// The message of a header that is refused.
@@ -135,7 +140,9 @@ fn header_message(
     file: &str,
     project: &str,
     refusal: Refusal,
-) -> Result<String, AllocError> {
+) -> Result<String, AllocError>
+    ensures { λ r. ⌜ made r (λ s. Points (now (file .entry)) (now (project .entry)) refusal (string-bytes s)) ⌝ }
+{
     match refusal {
         Refusal::Token(place) => line_of(
             heap,
@@ -162,7 +169,9 @@ fn program_message(
     file: &str,
     project: &str,
     refusal: Refusal,
-) -> Result<String, AllocError> {
+) -> Result<String, AllocError>
+    ensures { λ r. ⌜ made r (λ s. Points (now (file .entry)) (now (project .entry)) refusal (string-bytes s)) ⌝ }
+{
     let (at, program) = match read_project(project) {
         Ok(header) => (header.at, header.program),
         Err(_) => (0, project),
@@ -200,7 +209,9 @@ pub fn message(
     project: &str,
     script: &str,
     failure: &Failure,
-) -> Result<String, AllocError> {
+) -> Result<String, AllocError>
+    ensures { λ r. ⌜ made r (λ s. Says (now (file .entry)) (now (project .entry)) (now (script .entry)) (now (failure .entry)) (string-bytes s)) ⌝ }
+{
     match failure {
         Failure::Memory => format!(heap, "{file}: out of memory"),
         Failure::Header(refusal) => header_message(heap, file, project, *refusal),

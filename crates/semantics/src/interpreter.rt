@@ -48,7 +48,15 @@ pub fn value(nodes: &[u16], i: u16, vars: &[u64], fault: &mut u64) -> u64
 }
 
 /// One run of a delay, whose condition and length a node of their own holds.
-fn delay(nodes: &[u16], i: u16, elapsed: u64, out: u16, counter: u16, vars: &mut [u64], fault: &mut u64)
+fn delay(
+    nodes: &[u16],
+    i: u16,
+    elapsed: u64,
+    out: u16,
+    counter: u16,
+    vars: &mut [u64],
+    fault: &mut u64,
+)
     ensures { λ _. ⌜ Runs-delay (now (nodes .entry)) i elapsed out counter (now (vars .entry)) (now (fault .entry)) (now (vars .exit)) (now (fault .exit)) ⌝ }
 {
     if let Node::Setting(x, preset) = node_at(nodes, i) {

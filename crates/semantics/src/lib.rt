@@ -68,25 +68,145 @@ mod tests {
     // v2 := (v0 or v2) and not v1;
     #[test]
     fn expressions_cost_what_they_name() -> Result<(), Fail> {
-        let seven = needs_of(&[1, 2, 3, 3, 3, 1, 1, 0, 2, 7, 1, 2, 3, 2, 2, 6, 3, 0, 1, 1, 3, 4])?;
-        check_eq(seven, Needs { cost: 7, height: 2, depth: 0, reach: 3 })
+        let seven = needs_of(
+            &[
+                1,
+                2,
+                3,
+                3,
+                3,
+                1,
+                1,
+                0,
+                2,
+                7,
+                1,
+                2,
+                3,
+                2,
+                2,
+                6,
+                3,
+                0,
+                1,
+                1,
+                3,
+                4,
+            ],
+        )?;
+        check_eq(
+            seven,
+            Needs {
+                cost: 7,
+                height: 2,
+                depth: 0,
+                reach: 3,
+            },
+        )
     }
 
     // delay v2, v3, v0, 5; and repeat 5 times v2 := v2 + v0; end;
     #[test]
     fn statements_cost_their_parts() -> Result<(), Fail> {
         let delay = needs_of(&[3, 11, 1, 2, 3, 5, 1, 3, 3, 5, 1, 0, 3, 5, 0, 5, 3, 4])?;
-        check_eq(delay, Needs { cost: 2, height: 1, depth: 0, reach: 4 })?;
-        let five = needs_of(&[3, 9, 0, 5, 3, 10, 1, 2, 3, 3, 1, 2, 2, 0, 1, 0, 3, 4, 3, 12, 3, 4])?;
-        check_eq(five, Needs { cost: 26, height: 2, depth: 1, reach: 3 })
+        check_eq(
+            delay,
+            Needs {
+                cost: 2,
+                height: 1,
+                depth: 0,
+                reach: 4,
+            },
+        )?;
+        let five = needs_of(
+            &[
+                3,
+                9,
+                0,
+                5,
+                3,
+                10,
+                1,
+                2,
+                3,
+                3,
+                1,
+                2,
+                2,
+                0,
+                1,
+                0,
+                3,
+                4,
+                3,
+                12,
+                3,
+                4,
+            ],
+        )?;
+        check_eq(
+            five,
+            Needs {
+                cost: 26,
+                height: 2,
+                depth: 1,
+                reach: 3,
+            },
+        )
     }
 
     // if v0 < 10 then v2 := 1; else v2 := 65535 + 2; v3 := 0 - 1; end;
     #[test]
     fn the_longer_branch_counts() -> Result<(), Fail> {
         let tokens = [
-            3, 6, 1, 0, 2, 4, 0, 10, 3, 7, 1, 2, 3, 3, 0, 1, 3, 4, 3, 8, 1, 2, 3, 3, 0, 65535, 2, 0, 0, 2, 3, 4, 1, 3,
-            3, 3, 0, 0, 2, 1, 0, 1, 3, 4, 3, 12, 3, 4,
+            3,
+            6,
+            1,
+            0,
+            2,
+            4,
+            0,
+            10,
+            3,
+            7,
+            1,
+            2,
+            3,
+            3,
+            0,
+            1,
+            3,
+            4,
+            3,
+            8,
+            1,
+            2,
+            3,
+            3,
+            0,
+            65535,
+            2,
+            0,
+            0,
+            2,
+            3,
+            4,
+            1,
+            3,
+            3,
+            3,
+            0,
+            0,
+            2,
+            1,
+            0,
+            1,
+            3,
+            4,
+            3,
+            12,
+            3,
+            4,
         ];
         let tree = parse(&tokens)?;
         check_eq(cost(&tree), 12)
@@ -101,7 +221,10 @@ mod tests {
         evaluate(&tree, 0, &mut vars, &mut fault)?;
         check_eq(vars[3], 65533)?;
         check_eq(fault, 0)?;
-        check_eq(evaluate(&tree, 0, &mut vars[0..3], &mut fault), Err(Refusal::Length(2)))
+        check_eq(
+            evaluate(&tree, 0, &mut vars[0..3], &mut fault),
+            Err(Refusal::Length(2)),
+        )
     }
 
     // v2 := 100 / v0; where v0 is 0

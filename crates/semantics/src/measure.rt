@@ -9,7 +9,12 @@ use syntax::node::node_at;
 const TOO_MANY: u32 = 20001;
 
 /// What nothing needs.
-const NOTHING: Needs = Needs { cost: 0, height: 0, depth: 0, reach: 0 };
+const NOTHING: Needs = Needs {
+    cost: 0,
+    height: 0,
+    depth: 0,
+    reach: 0,
+};
 
 /// What the expression that a node holds needs.
 pub fn expr_needs(nodes: &[u16], i: u16) -> Needs
@@ -17,11 +22,24 @@ pub fn expr_needs(nodes: &[u16], i: u16) -> Needs
     ensures measured { λ r. ⌜ Measured-expr (now (nodes .entry)) i r ⌝ }
 {
     match node_at(nodes, i) {
-        Node::Literal(_n) => Needs { cost: 1, height: 1, depth: 0, reach: 0 },
-        Node::Variable(v) => Needs { cost: 1, height: 1, depth: 0, reach: v as u32 + 1 },
+        Node::Literal(_n) => Needs {
+            cost: 1,
+            height: 1,
+            depth: 0,
+            reach: 0,
+        },
+        Node::Variable(v) => Needs {
+            cost: 1,
+            height: 1,
+            depth: 0,
+            reach: v as u32 + 1,
+        },
         Node::Not(x) => {
             let inner = expr_needs(nodes, x);
-            Needs { cost: (inner.cost + 1).min(TOO_MANY), ..inner }
+            Needs {
+                cost: (inner.cost + 1).min(TOO_MANY),
+                ..inner
+            }
         }
         Node::Binary(_op, x, y) => {
             let left = expr_needs(nodes, x);

@@ -42,14 +42,7 @@ pub fn note(fault: &mut u64, new: u64)
 
 /// Counts a delay on while its condition holds, and sets its output once the count is at the
 /// preset. Does nothing where a variable is missing.
-pub fn count_time(
-    elapsed: u64,
-    vars: &mut [u64],
-    out: u16,
-    counter: u16,
-    preset: u16,
-    on: bool,
-)
+pub fn count_time(elapsed: u64, vars: &mut [u64], out: u16, counter: u16, preset: u16, on: bool)
     ensures { λ _. ⌜ (out < length (now (vars .entry)) → counter < length (now (vars .entry)) → cells (now (vars .exit)) ≡ delayed elapsed out counter preset on (cells (now (vars .entry)))) ⌝ }
 {
     let (out, counter) = (out as usize, counter as usize);

@@ -16,4 +16,5 @@ returns-in-Binary t c =
     record {
       grows = search needs;
       emits = λ e h. emit-binary (c .args .nodes .now) (c .in-Binary .op) (c .in-Binary .x) (c .in-Binary .y) (c .emit-expr-in-Binary .ensures .emits) (c .emit-expr-in-Binary-2 .ensures .emits) (c .put-in-Binary .ensures .puts)
-          e (c .in-Binary .ensures tt .expr e h) }
+          e (c .in-Binary .ensures tt .expr e h);
+    }

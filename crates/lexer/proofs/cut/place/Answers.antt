@@ -22,9 +22,11 @@ returns-then-n-eq-MOST-TOKENS c = not-cut _ _ _ _ (c .loop-i-test .taken) (sym (
 pub loop-i-again : need.loop-i-again
 loop-i-again c =
     let told = c .in-Some .ensures tt in
-    let end : c .loop-i .i + (c .in-Some .end - c .loop-i .i) ≡ c .in-Some .end = omega (arith, told .0) in
-    (subst (λ e. Sofar (c .args .text .now) e (c .loop-i .n + 1)) end
-    (passed-token _ _ _ _ (c .in-Some .field-0-0) (omega (arith, c .if-n-eq-MOST-TOKENS .left, c .loop-i .inv .0 .few)) (told .1) (c .loop-i .inv .0)), omega (arith, c .if-n-index .left, c .loop-i .inv .1))
+    let end : c .loop-i .i + (c .in-Some .end - c .loop-i .i) ≡ c .in-Some .end = omega (arith, told .0) in (
+      subst (λ e. Sofar (c .args .text .now) e (c .loop-i .n + 1)) end
+          (passed-token _ _ _ _ (c .in-Some .field-0-0) (omega (arith, c .if-n-eq-MOST-TOKENS .left, c .loop-i .inv .0 .few)) (told .1) (c .loop-i .inv .0)),
+      omega (arith, c .if-n-index .left, c .loop-i .inv .1),
+    )
 
 pub returns-in-None : need.returns-in-None
 returns-in-None c = not-cut _ _ _ _ (c .loop-i-test .taken) (sym (c .if-is-blank .ensures tt)) (inr (c .in-None .ensures tt)) (c .loop-i .inv .0)

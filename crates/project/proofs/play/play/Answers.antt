@@ -14,7 +14,7 @@ pub returns-in-Ok : need.returns-in-Ok
 returns-in-Ok c =
     let l = c .in-Continue-loaded .loaded in
     let told : Told-text (l .kept) (l .inputs) (l .firsts) (vec-items (l .code)) (vec-items (c .in-Continue-events .events)) (string-bytes (c .in-Ok .text)) =
-        subst₂ (λ (code : List ℕ) (lines : List Event). Told-text (l .kept) (l .inputs) (l .firsts) code lines (string-bytes (c .in-Ok .text))) (c .as-slice .ensures .value) (c .as-slice-2 .ensures .value) (c .in-Ok .ensures tt .1) in
+    subst₂ (λ (code : List ℕ) (lines : List Event). Told-text (l .kept) (l .inputs) (l .firsts) code lines (string-bytes (c .in-Ok .text))) (c .as-slice .ensures .value) (c .as-slice-2 .ensures .value) (c .in-Ok .ensures tt .1) in
     played-so (c .args .project .now) (c .args .script .now) l (vec-items (c .in-Continue-events .events)) (c .in-Ok .text) (c .in-Continue-loaded .ensures tt) (c .in-Continue-events .ensures tt) told
 
 pub returns : need.returns

@@ -12,7 +12,8 @@ pub returns-in-Not : need.returns-in-Not
 returns-in-Not t c =
     record {
       small = search needs;
-      measured = λ e h. rw (c .min .ensures) (measure-not (c .args .nodes .now) (c .in-Not .x) (c .expr-needs-inner .result) (c .expr-needs-inner .ensures .measured) e (c .in-Not .ensures tt .expr e h)) }
+      measured = λ e h. rw (c .min .ensures) (measure-not (c .args .nodes .now) (c .in-Not .x) (c .expr-needs-inner .result) (c .expr-needs-inner .ensures .measured) e (c .in-Not .ensures tt .expr e h));
+    }
 
 pub returns-in-Binary : need.returns-in-Binary
 returns-in-Binary t c =
@@ -20,4 +21,5 @@ returns-in-Binary t c =
       small = search needs;
       measured = λ e h. rw (c .min-in-Binary .ensures, c .max .ensures, c .max-in-Binary .ensures)
           (measure-binary (c .args .nodes .now) (c .in-Binary .-op) (c .in-Binary .x) (c .in-Binary .y) (c .expr-needs-left .result) (c .expr-needs-right .result)
-          (c .expr-needs-left .ensures .measured) (c .expr-needs-right .ensures .measured) e (c .in-Binary .ensures tt .expr e h)) }
+          (c .expr-needs-left .ensures .measured) (c .expr-needs-right .ensures .measured) e (c .in-Binary .ensures tt .expr e h));
+    }
