@@ -6,5 +6,3 @@ pub mod play;
 pub mod report;
 pub mod run;
 mod settings;
-#[cfg(test)]
-mod tests;

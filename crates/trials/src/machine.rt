@@ -70,7 +70,15 @@ fn the_machine_does_what_the_evaluator_does() -> Result<(), Fail> {
         "delay v2, v2, v0, 20; delay v3, v4, v1, 0;",
         "v2 := v0 / (v1 - v1); v3 := 1 / 0;",
     ];
-    let values = [(0, 0), (1, 0), (0, 1), (5, 7), (65535, 2), (65536, 65537), (1 << 63, 3)];
+    let values = [
+        (0, 0),
+        (1, 0),
+        (0, 1),
+        (5, 7),
+        (65535, 2),
+        (65536, 65537),
+        (1 << 63, 3),
+    ];
     for text in programs {
         for (v0, v1) in values {
             check(agree(text, v0, v1)).note(text)?;

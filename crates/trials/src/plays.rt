@@ -45,7 +45,8 @@ fn a_quotient_by_0_lights_the_lamp(rt: LibcRuntime) -> Result<(), Fail> {
 
 #[test]
 fn a_choice_goes_one_way(rt: LibcRuntime) -> Result<(), Fail> {
-    let project = "outside v0\nprogram\nif v0 < 10 then v2 := 1; else v2 := 65535 + 2; v3 := 0 - 1; end;";
+    let project =
+        "outside v0\nprogram\nif v0 < 10 then v2 := 1; else v2 := 65535 + 2; v3 := 0 - 1; end;";
     let script = "start\nscan 1: v0 9\nscan 1: v0 10\n";
     let expected = "start:\nscan: v0 9 v2 1\nscan: v0 10 v3 65535\n";
     check(comes_of(rt.alloc(), project, script, expected))
@@ -72,9 +73,14 @@ fn differences_keep_their_sign(rt: LibcRuntime) -> Result<(), Fail> {
         ("1 or v0 and 0", "1"),
     ];
     for (expression, value) in cases {
-        let project = format!(heap, "first v0 2\nfirst v1 5\nfirst v2 3\nprogram\nv3 := {expression};")?;
+        let project = format!(
+            heap,
+            "first v0 2\nfirst v1 5\nfirst v2 3\nprogram\nv3 := {expression};"
+        )?;
         let expected = format!(heap, "start:\nscan: v3 {value}\n")?;
-        check(comes_of(heap, project.as_str(), "start\nscan 1", expected.as_str())).note(expression)?;
+        check(comes_of(heap, project.as_str(), "start\nscan 1", expected.as_str())).note(
+            expression,
+        )?;
     }
     Ok(())
 }
@@ -82,7 +88,9 @@ fn differences_keep_their_sign(rt: LibcRuntime) -> Result<(), Fail> {
 /// The first character of an operation that is refused when off, and of those that are too large.
 #[test]
 fn requests_are_refused_by_their_number(rt: LibcRuntime) -> Result<(), Fail> {
-    let script = "scan 1\ncut 1 at 0 junk 0\nforce v1 1\nfree v1\nstart\nscan 65536\nforce v64 1\nforce v1 65536\nfree v64\n";
-    let expected = "refused 6 at 0\nrefused 6 at 0\nrefused 6 at 0\nrefused 6 at 0\nstart:\nrefused 7 at 0\nrefused 9 at 0\nrefused 9 at 1\nrefused 9 at 0\n";
+    let script =
+        "scan 1\ncut 1 at 0 junk 0\nforce v1 1\nfree v1\nstart\nscan 65536\nforce v64 1\nforce v1 65536\nfree v64\n";
+    let expected =
+        "refused 6 at 0\nrefused 6 at 0\nrefused 6 at 0\nrefused 6 at 0\nstart:\nrefused 7 at 0\nrefused 9 at 0\nrefused 9 at 1\nrefused 9 at 0\n";
     check(comes_of(rt.alloc(), "program\n", script, expected))
 }

@@ -121,8 +121,14 @@ fn headers_are_refused_at_the_first_word_that_does_not_fit(rt: LibcRuntime) -> R
 fn limits_are_refused_by_the_first_that_is_passed(rt: LibcRuntime) -> Result<(), Fail> {
     let heap = rt.alloc();
     // a round costs 3, so 6,666 of them and the one before cost 19,999, and 6,667 cost 20,002
-    check_eq(told_of_program(heap, "repeat 6666 times v1 := 1; end;")?, (0, 0))?;
-    check_eq(told_of_program(heap, "repeat 6667 times v1 := 1; end;")?, (3, 0))?;
+    check_eq(
+        told_of_program(heap, "repeat 6666 times v1 := 1; end;")?,
+        (0, 0),
+    )?;
+    check_eq(
+        told_of_program(heap, "repeat 6667 times v1 := 1; end;")?,
+        (3, 0),
+    )?;
     // each bracket holds one value more, and the innermost number is the last
     let low = repeated(heap, "v1 := ", "1 + (", 31, "1")?;
     let low = repeated(heap, low.as_str(), ")", 31, ";")?;

@@ -1,9 +1,9 @@
 //! A small project played: what is reported, line by line.
-use crate::run::RunError;
-use crate::run::RunErrorDebug;
-use crate::run::play_events;
 use formats::script::Event;
 use formats::script::Input;
+use project::run::RunError;
+use project::run::RunErrorDebug;
+use project::run::play_events;
 use std::alloc::AllocError;
 use std::alloc::Global;
 use std::test::*;
