@@ -56,4 +56,4 @@ pub coded_right : (size : ℕ) (s : Stmt) (room room' : List ℕ) (n : ℕ) → 
 coded_right size s room room' n near c =
     let enough : 4 * length (compile s) ≤ length room = omega (arith, c.size, c.enough) in
     let back : code_in (take (4 * n) room') ≡ compile s = (λ j. code_in (take (4 * c.size j) (c.wrote j))) ∙ read_back (compile s) room enough in
-    record { needs = stmt_need s; right = subst (Right (meaning s) (stmt_need s)) (sym back) (right s); fits = c.ranges; near = near }
+    record { needs = stmt_need s; right = subst (Right (meaning s) (stmt_need s)) (sym back) (right s); fits = c.fits; near = near }

@@ -84,7 +84,7 @@ fn push_kept(
     }
     let gap = gap(random);
     let zeros = zeros(random);
-    let line = format!(heap, "kept{gap}{zeros}{kept}")?;
+    let line = format!(in heap; "kept{gap}{zeros}{kept}")?;
     push_line(text, random, line.as_str())
 }
 
@@ -101,7 +101,7 @@ fn push_outside(
     for (variable, input) in inputs.iter().enumerate() {
         if *input {
             let gap = gap(random);
-            let word = format!(heap, "{gap}v{variable}")?;
+            let word = format!(in heap; "{gap}v{variable}")?;
             text.push_str(word.as_str())?;
         }
     }
@@ -119,7 +119,7 @@ fn push_firsts(
         if *value != 0 {
             let gap = gap(random);
             let zeros = zeros(random);
-            let line = format!(heap, "first {gap}v{variable}{gap}{zeros}{value}")?;
+            let line = format!(in heap; "first {gap}v{variable}{gap}{zeros}{value}")?;
             push_line(text, random, line.as_str())?;
         }
     }

@@ -7,7 +7,7 @@ fn push_setting(
     variable: usize,
     value: u16,
 ) -> Result<(), AllocError> {
-    let words = format!(heap, " v{variable} {value}")?;
+    let words = format!(in heap; " v{variable} {value}")?;
     line.push_str(words.as_str())
 }
 
@@ -45,5 +45,5 @@ pub(crate) fn scan_line(
 
 pub(crate) fn refused_line(heap: Global, why: (u64, u64)) -> Result<String, AllocError> {
     let (number, place) = why;
-    format!(heap, "refused {number} at {place}")
+    format!(in heap; "refused {number} at {place}")
 }

@@ -36,7 +36,7 @@ fn push_token(
     if matches!(token, Token::Number(_)) && random.chance(5) {
         text.push_str("00")?;
     }
-    let word = format!(heap, "{token}")?;
+    let word = format!(in heap; "{token}")?;
     text.push_str(word.as_str())?;
     Ok(place)
 }

@@ -173,7 +173,7 @@ fn push_inputs(
         let zeros = zeros(random);
         let variable = input.variable;
         let value = input.value;
-        let words = format!(heap, "{gap}v{variable}{gap}{zeros}{value}")?;
+        let words = format!(in heap; "{gap}v{variable}{gap}{zeros}{value}")?;
         line.push_str(words.as_str())?;
     }
     Ok(())
@@ -187,18 +187,18 @@ fn line_of(heap: Global, random: &mut Random, event: &Event) -> Result<String, A
         Event::Start => String::from_str(heap, "start"),
         Event::Scan(scan) => {
             let elapsed = scan.elapsed;
-            let mut line = format!(heap, "scan{gap}{zeros}{elapsed}")?;
+            let mut line = format!(in heap; "scan{gap}{zeros}{elapsed}")?;
             push_inputs(&mut line, heap, random, scan.inputs.as_slice())?;
             Ok(line)
         }
         Event::Cut(scan, at, junk) => {
             let elapsed = scan.elapsed;
-            let mut line = format!(heap, "cut {elapsed}{gap}at {zeros}{at}{gap}junk {junk}")?;
+            let mut line = format!(in heap; "cut {elapsed}{gap}at {zeros}{at}{gap}junk {junk}")?;
             push_inputs(&mut line, heap, random, scan.inputs.as_slice())?;
             Ok(line)
         }
-        Event::Force(point, number) => format!(heap, "force v{point}{gap}{zeros}{number}"),
-        Event::Free(point) => format!(heap, "free{gap}v{point}"),
+        Event::Force(point, number) => format!(in heap; "force v{point}{gap}{zeros}{number}"),
+        Event::Free(point) => format!(in heap; "free{gap}v{point}"),
     }
 }
 

@@ -114,10 +114,10 @@ pub(crate) fn listing_text(
     for place in 0..code.len() / 4 {
         let at = 4 * place;
         let instruction = instruction_of(code[at], code[at + 1], code[at + 2], code[at + 3]);
-        let line = format!(heap, "{place} {instruction}\n")?;
+        let line = format!(in heap; "{place} {instruction}\n")?;
         out.push_str(line.as_str())?;
     }
-    let last = format!(heap, "cost {cost}, height {height}, depth {depth}\n")?;
+    let last = format!(in heap; "cost {cost}, height {height}, depth {depth}\n")?;
     out.push_str(last.as_str())?;
     Ok(out)
 }

@@ -112,7 +112,7 @@ pub fn message(
     ensures { IfOk result (λ s. Says file.now project.now script.now failure.now (string_bytes s)) }
 {
     match failure {
-        Failure::Memory => format!(heap, "{file}: out of memory"),
+        Failure::Memory => format!(in heap; "{file}: out of memory"),
         Failure::Header(refusal) => line_of(
             heap,
             file,

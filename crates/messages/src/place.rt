@@ -77,8 +77,5 @@ pub(crate) fn line_of(
     let (line, column) = line_and_column(text, at);
     let number = refusal.number();
     let place = refusal.place();
-    format!(
-        heap,
-        "{file}:{line}:{column}: refused {number} at {place}: {sentence}"
-    )
+    format!(in heap; "{file}:{line}:{column}: refused {number} at {place}: {sentence}")
 }

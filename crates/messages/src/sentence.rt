@@ -61,15 +61,15 @@ fn mark_text(number: u16) -> &'static str {
 /// A token as it is written, in quotes.
 fn quoted(heap: Global, kind: u16, value: u16) -> Result<String, AllocError> {
     match kind {
-        0 => format!(heap, "'{value}'"),
-        1 => format!(heap, "'v{value}'"),
+        0 => format!(in heap; "'{value}'"),
+        1 => format!(in heap; "'v{value}'"),
         2 => {
             let text = operator_text(value);
-            format!(heap, "'{text}'")
+            format!(in heap; "'{text}'")
         }
         _ => {
             let text = mark_text(value);
-            format!(heap, "'{text}'")
+            format!(in heap; "'{text}'")
         }
     }
 }
@@ -88,7 +88,7 @@ pub(crate) fn mismatch(heap: Global, tokens: &[u16], index: u64) -> Result<Strin
     let at = (index as usize).min(tokens.len() / 2) * 2;
     let wanted = expected_words(expected_at(&tokens[..at]));
     let there = found(heap, tokens, at)?;
-    format!(heap, "expected {wanted}, found {there}")
+    format!(in heap; "expected {wanted}, found {there}")
 }
 
 /// The sentence about a header.

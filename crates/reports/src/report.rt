@@ -51,7 +51,7 @@ fn push_settings(out: &mut String, heap: Global, settings: &[Setting]) -> Result
     ensures { OnOk result (string_bytes out.new ≡ string_bytes out.old ++ flat_map spaced settings.now) }
 {
     for s in settings {
-        let text = format!(heap, " {s}")?;
+        let text = format!(in heap; " {s}")?;
         out.push_str(text.as_str())?;
     }
     Ok(())
@@ -98,7 +98,7 @@ fn push_line(out: &mut String, heap: Global, report: &Report) -> Result<(), Allo
         Report::Started(settings) => push_start(out, heap, settings.as_slice()),
         Report::Scanned { changed, lamp } => push_scan(out, heap, changed.as_slice(), *lamp),
         Report::Refused { number, place } => {
-            let text = format!(heap, "refused {number} at {place}\n")?;
+            let text = format!(in heap; "refused {number} at {place}\n")?;
             out.push_str(text.as_str())?;
             Ok(())
         }

@@ -5,7 +5,7 @@ use std::test::Fail;
 
 /// Is this the listing of a program without a header?
 fn lists(heap: Global, program: &str, expected: &str) -> Result<bool, Fail> {
-    let project = format!(heap, "program\n{program}")?;
+    let project = format!(in heap; "program\n{program}")?;
     match listing(heap, project.as_str()) {
         Ok(text) => Ok(text.as_str() == expected),
         Err(_) => Ok(false),

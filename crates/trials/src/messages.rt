@@ -67,7 +67,7 @@ fn projects_are_refused_at_a_line_and_a_column(rt: HostRuntime) -> Result<(), Fa
         ),
     ];
     for (project, line) in cases {
-        let expected = format!(heap, "mill.plc:{line}")?;
+        let expected = format!(in heap; "mill.plc:{line}")?;
         assert_eq!(rt; told_about(heap, project, "")?.as_str(), expected.as_str());
     }
     Ok(())
@@ -109,7 +109,7 @@ fn scripts_are_refused_at_a_line_and_a_column(rt: HostRuntime) -> Result<(), Fai
         ),
     ];
     for (script, line) in cases {
-        let expected = format!(heap, "script:{line}: no event goes on so")?;
+        let expected = format!(in heap; "script:{line}: no event goes on so")?;
         assert_eq!(rt;
             told_about(heap, "program\n", script)?.as_str(),
             expected.as_str()

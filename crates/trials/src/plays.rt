@@ -73,11 +73,10 @@ fn differences_keep_their_sign(rt: HostRuntime) -> Result<(), Fail> {
         ("1 or v0 and 0", "1"),
     ];
     for (expression, value) in cases {
-        let project = format!(
-            heap,
+        let project = format!(in heap;
             "first v0 2\nfirst v1 5\nfirst v2 3\nprogram\nv3 := {expression};"
         )?;
-        let expected = format!(heap, "start:\nscan: v3 {value}\n")?;
+        let expected = format!(in heap; "start:\nscan: v3 {value}\n")?;
         assert!(rt;
             comes_of(heap, project.as_str(), "start\nscan 1", expected.as_str()),
             "{}",

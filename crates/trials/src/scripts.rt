@@ -68,11 +68,10 @@ fn differences_go_round_on_both_sides(rt: HostRuntime) -> Result<(), Fail> {
         ("v0 - v1 and v2", "1"),
     ];
     for (expression, value) in cases {
-        let project = format!(
-            heap,
+        let project = format!(in heap;
             "first v0 2\nfirst v1 5\nfirst v2 3\nprogram\nv3 := {expression};"
         )?;
-        let expected = format!(heap, "start:\nscan: v3 {value}\n")?;
+        let expected = format!(in heap; "start:\nscan: v3 {value}\n")?;
         assert!(rt;
             comes_of(heap, project.as_str(), "start\nscan 1", expected.as_str()),
             "{}",

@@ -3,4 +3,4 @@ use Rattle.lexer.specs.Outcome.{PlaceOfToken}
 use Rattle.lexer.proofs.token_place.Goals as goal
 
 pub returns : goal.returns
-returns c = subst (λ l. PlaceOfToken l c.args.index c.place.result) c.as-bytes.ensures.value c.place.ensures
+returns c = subst (λ l. PlaceOfToken l c.args.index c.place.result) c.as_bytes.ensures.value c.place.ensures

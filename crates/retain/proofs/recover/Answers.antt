@@ -15,13 +15,13 @@ copied kept device out b eb eo i l =
 
 pub returns : goal.returns
 returns c =
-    let s = shaped c.args.kept c.args.device.now (length c.args.out.now) c.in-ok-check-shape.ensures in
+    let s = shaped c.args.kept c.args.device.now (length c.args.out.now) c.in_ok-check_shape.ensures in
     let d = c.args.device.now in
-    let o = c.copy-from-slice.new.self in
-    let same = copied c.args.kept d o c.base-start.result (c.base-start.ensures ∙ ap (slot_base c.args.kept) c.current-slot.ensures) c.copy-from-slice.ensures.after in
-    let size : length o ≡ c.args.kept = omega (arith, c.copy-from-slice.ensures.len, length-take-le c.args.kept c.args.out.now s.values) in
+    let o = c.copy_from_slice.new.self in
+    let same = copied c.args.kept d o c.base-start.result (c.base-start.ensures ∙ ap (slot_base c.args.kept) c.current_slot.ensures) c.copy_from_slice.ensures.after in
+    let size : length o ≡ c.args.kept = omega (arith, c.copy_from_slice.ensures.len, length-take-le c.args.kept c.args.out.now s.values) in
     let w = front_written c.args.kept (recovered c.args.kept (cells d)) c.args.out.now o size s.values same in (
-      c.in-ok-check-shape.ensures,
+      c.in_ok-check_shape.ensures,
       record {
         inside = λ i l. w.inside i (omega arith) l;
         past = w.above;

@@ -9,12 +9,12 @@ pub returns-in-Variable : goal.returns-in-Variable
 returns-in-Variable t c = record { grows = c.put-in-Variable.ensures.grows; emits = λ e h. emit_variable c.args.nodes.now c.in-Variable.v c.put-in-Variable.ensures.puts e (c.in-Variable.ensures.expr e h) }
 
 pub returns-in-Not : goal.returns-in-Not
-returns-in-Not t c = record { grows = search rules; emits = λ e h. emit_not c.args.nodes.now c.in-Not.x c.emit-expr.ensures.emits c.put-in-Not.ensures.puts e (c.in-Not.ensures.expr e h) }
+returns-in-Not t c = record { grows = search rules; emits = λ e h. emit_not c.args.nodes.now c.in-Not.x c.emit_expr.ensures.emits c.put-in-Not.ensures.puts e (c.in-Not.ensures.expr e h) }
 
 pub returns-in-Binary : goal.returns-in-Binary
 returns-in-Binary t c =
     record {
       grows = search rules;
-      emits = λ e h. emit_binary c.args.nodes.now c.in-Binary.op c.in-Binary.x c.in-Binary.y c.emit-expr-in-Binary.ensures.emits c.emit-expr-in-Binary-2.ensures.emits c.put-in-Binary.ensures.puts
+      emits = λ e h. emit_binary c.args.nodes.now c.in-Binary.op c.in-Binary.x c.in-Binary.y c.emit_expr-in-Binary.ensures.emits c.emit_expr-in-Binary-2.ensures.emits c.put-in-Binary.ensures.puts
           e (c.in-Binary.ensures.expr e h);
     }

@@ -8,8 +8,8 @@ use Rattle.compiler.proofs.entry.make.Goals as goal
 pub returns : goal.returns
 returns c =
     let signs = c.args.signs.now in
-    let shaped = c.in-ok-tree.ensures.0 in
-    let read = c.in-ok-tree.ensures.1 in
+    let shaped = c.in_ok-tree.ensures.0 in
+    let read = c.in_ok-tree.ensures.1 in
     let room = c.args.room.now in
     let room' = c.write_code.new.room in
     let r = c.write_code.result in

@@ -13,6 +13,6 @@ returns c s h short =
     let m' = c.emit.new.draft.numbers in
     let n = c.emit.new.draft.len in
     let held : HoldsStmt c.nodes.result.now c.root.result s = rw (c.nodes.ensures, c.root.ensures) h in
-    let fits = within_limits (stmt_need s) (sym (measured_limit (stmt_need s) c.needs.result (c.needs.ensures s h)) ∙ c.in-ok-check-limits.ensures) in
+    let fits = within_limits (stmt_need s) (sym (measured_limit (stmt_need s) c.needs.result (c.needs.ensures s h)) ∙ c.in_ok-check_limits.ensures) in
     let appends = subst (λ at. Appends (compile s) m at m' n) c.new-draft.ensures.empty (c.emit.ensures.emits s held) in
-    codes_copied s m m' c.args.room.now c.copy-to.new.room n c.copy-to.result fits (omega (arith, short, c.new-draft.ensures.room)) appends c.copy-to.ensures
+    codes_copied s m m' c.args.room.now c.copy_to.new.room n c.copy_to.result fits (omega (arith, short, c.new-draft.ensures.room)) appends c.copy_to.ensures

@@ -51,6 +51,6 @@ pub returns-in-11 : goal.returns-in-11
 unfolding mark_of
 returns-in-11 c = grind (arith, nat_tests)
 
-pub returns-in-default : goal.returns-in-default
+pub returns-in_default : goal.returns-in_default
 unfolding mark_of
-returns-in-default c = grind (arith, nat_tests)
+returns-in_default c = grind (arith, nat_tests)

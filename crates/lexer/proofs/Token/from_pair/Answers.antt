@@ -10,7 +10,7 @@ pub returns-in-1 : goal.returns-in-1
 returns-in-1 c = sym (is_name _ _ c.in-1.is)
 
 pub returns-in-2 : goal.returns-in-2
-returns-in-2 c = ap operator c.from-number.ensures ∙ sym (is_operator _ _ c.in-2.is)
+returns-in-2 c = ap operator c.from_number.ensures ∙ sym (is_operator _ _ c.in-2.is)
 
-pub returns-in-default : goal.returns-in-default
-returns-in-default c = ap mark c.from-number-in-default.ensures ∙ sym (is_mark c.args.kind _ (omega arith))
+pub returns-in_default : goal.returns-in_default
+returns-in_default c = ap mark c.from_number-in_default.ensures ∙ sym (is_mark c.args.kind _ (omega arith))

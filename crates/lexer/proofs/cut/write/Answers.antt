@@ -5,8 +5,8 @@ use Rattle.lexer.proofs.cut.write.Goals as goal
 pub loop-i-init : goal.loop-i-init
 loop-i-init c = writing_begun _ _ _ c.requires.0 c.requires.1
 
-pub loop-i-preserved-then-is-blank : goal.loop-i-preserved-then-is-blank
-loop-i-preserved-then-is-blank c = written_blank _ _ _ _ _ _ c.loop-i.invariant c.loop-i-test.true (sym c.if-is-blank.ensures)
+pub loop-i-preserved-then-is_blank : goal.loop-i-preserved-then-is_blank
+loop-i-preserved-then-is_blank c = written_blank _ _ _ _ _ _ c.loop-i.invariant c.loop-i-test.true (sym c.if-is_blank.ensures)
 
 pub bounds-room-at : goal.bounds-room-at
 bounds-room-at c = omega (arith, room_left _ _ _ _ _ _ c.loop-i.invariant _ _ c.in-Some.ensures.1, c.loop-i.auto.room)
@@ -21,7 +21,7 @@ loop-i-preserved c =
     written_token _ _ _ _ _ _ c.loop-i.invariant _ _ c.in-Some.token _ end c.pair-kind.ensures told.1
 
 pub unreachable-requires : goal.unreachable-requires
-unreachable-requires c = not_stuck _ _ _ _ _ _ c.loop-i.invariant c.loop-i-test.true (sym c.if-is-blank.ensures) c.in-None.ensures
+unreachable-requires c = not_stuck _ _ _ _ _ _ c.loop-i.invariant c.loop-i-test.true (sym c.if-is_blank.ensures) c.in-None.ensures
 
 pub returns : goal.returns
 returns c = all_written _ _ _ _ _ _ c.loop-i.invariant c.loop-i-test.false

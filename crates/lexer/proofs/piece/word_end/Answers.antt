@@ -4,12 +4,12 @@ use Rattle.lexer.proofs.piece.word_end.Goals as goal
 
 pub loop-end-preserved : goal.loop-end-preserved
 loop-end-preserved c =
-    let step = run_more c.args.text.now c.loop-end.end c.loop-end-test.true (sym c.if-is-ascii-alphanumeric.ensures.value) in
+    let step = run_more c.args.text.now c.loop-end.end c.loop-end-test.true (sym c.if-is_ascii_alphanumeric.ensures.value) in
     (omega arith, omega (arith, step, c.loop-end.invariant.1))
 
-pub returns-else-is-ascii-alphanumeric : goal.returns-else-is-ascii-alphanumeric
-returns-else-is-ascii-alphanumeric c =
-    let stop = run_none c.args.text.now c.loop-end.end c.loop-end-test.true (sym c.if-is-ascii-alphanumeric.ensures.value) in
+pub returns-else-is_ascii_alphanumeric : goal.returns-else-is_ascii_alphanumeric
+returns-else-is_ascii_alphanumeric c =
+    let stop = run_none c.args.text.now c.loop-end.end c.loop-end-test.true (sym c.if-is_ascii_alphanumeric.ensures.value) in
     record { within = c.loop-end.invariant.0; at = omega (arith, stop, c.loop-end.invariant.1) }
 
 pub returns-after-loop-end : goal.returns-after-loop-end

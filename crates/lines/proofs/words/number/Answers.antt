@@ -4,12 +4,12 @@ use Rattle.std.proofs.lemmas.Bool.{both_ways}
 use Rattle.lines.proofs.Names.{plus_none, number_from_parse}
 use Rattle.lines.proofs.words.number.Goals as goal
 
-pub returns-then-starts-with : goal.returns-then-starts-with
-returns-then-starts-with c =
-    sym (plus_none _ ((starts_char 43 c.args.word.now _ c.starts-with.ensures.cases (omega arith) (omega arith)).0 c.if-starts-with.true))
+pub returns-then-starts_with : goal.returns-then-starts_with
+returns-then-starts_with c =
+    sym (plus_none _ ((starts_char 43 c.args.word.now _ c.starts_with.ensures.cases (omega arith) (omega arith)).0 c.if-starts_with.true))
 
 pub returns : goal.returns
 returns c =
     c.ok.ensures.value
     ∙ number_from_parse c.args.word.now c.parse.result c.parse.ensures.value.0
-    (λ e. both_ways _ c.if-starts-with.false ((starts_char 43 c.args.word.now _ c.starts-with.ensures.cases (omega arith) (omega arith)).1 e))
+    (λ e. both_ways _ c.if-starts_with.false ((starts_char 43 c.args.word.now _ c.starts_with.ensures.cases (omega arith) (omega arith)).1 e))

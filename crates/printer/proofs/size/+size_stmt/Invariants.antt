@@ -1,4 +1,4 @@
 use Rattle.printer.proofs.size.+size_stmt.Given as goal
 
-abbrev pub decreases-size-stmt : goal.decreases-size-stmt
-decreases-size-stmt l = l.i
+abbrev pub decreases-size_stmt : goal.decreases-size_stmt
+decreases-size_stmt l = l.i

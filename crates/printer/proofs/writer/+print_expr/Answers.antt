@@ -9,13 +9,13 @@ pub returns-in-Variable : goal.returns-in-Variable
 returns-in-Variable t c = record { within = c.put-in-Variable.ensures.within; puts = λ e h. put_variable c.args.level c.in-Variable.v c.put-in-Variable.ensures.puts e (c.in-Variable.ensures.expr e h) }
 
 pub returns-in-Not : goal.returns-in-Not
-returns-in-Not t c = record { within = c.print_expr.ensures.within; puts = λ e h. put_not c.args.nodes.now c.args.level c.in-Not.x c.put-mark-next.ensures.puts c.print_expr.ensures.puts e (c.in-Not.ensures.expr e h) }
+returns-in-Not t c = record { within = c.print_expr.ensures.within; puts = λ e h. put_not c.args.nodes.now c.args.level c.in-Not.x c.put_mark-next.ensures.puts c.print_expr.ensures.puts e (c.in-Not.ensures.expr e h) }
 
 pub returns-in-Binary : goal.returns-in-Binary
 returns-in-Binary t c =
     record {
-      within = c.put-bracket.ensures.within;
-      puts = λ e h. put_binary c.args.nodes.now c.args.level c.in-Binary.number c.strength-of-strength.result c.in-Binary.x c.in-Binary.y c.from-number-op.result _ c.from-number-op.ensures c.strength-of-strength.ensures.is refl
-          c.put-bracket-begin.ensures.puts c.print-expr-middle.ensures.puts c.put-next.ensures.puts c.print-expr-end.ensures.puts c.put-bracket.ensures.puts
+      within = c.put_bracket.ensures.within;
+      puts = λ e h. put_binary c.args.nodes.now c.args.level c.in-Binary.number c.strength_of-strength.result c.in-Binary.x c.in-Binary.y c.from_number-op.result _ c.from_number-op.ensures c.strength_of-strength.ensures.is refl
+          c.put_bracket-begin.ensures.puts c.print_expr-middle.ensures.puts c.put-next.ensures.puts c.print_expr-end.ensures.puts c.put_bracket.ensures.puts
           e (c.in-Binary.ensures.expr e h);
     }

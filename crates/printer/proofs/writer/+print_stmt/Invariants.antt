@@ -1,4 +1,4 @@
 use Rattle.printer.proofs.writer.+print_stmt.Given as goal
 
-abbrev pub decreases-print-stmt : goal.decreases-print-stmt
-decreases-print-stmt l = l.i
+abbrev pub decreases-print_stmt : goal.decreases-print_stmt
+decreases-print_stmt l = l.i

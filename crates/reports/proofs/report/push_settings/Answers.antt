@@ -11,9 +11,9 @@ loop-s-preserved c =
     let xs = c.args.settings.now in
     let i = c.loop-s.s-index in
     let h : i < length xs = omega arith in
-    let written = c.as-str.ensures.value ∙ c.in-ok-text.ensures.ok in
+    let written = c.as_str.ensures.value ∙ c.in_ok-text.ensures.ok in
     grows spaced (string_bytes c.args.out.now) (string_bytes c.loop-s.out) _ xs i (get_or xs i d) d h refl c.loop-s.invariant
-    (c.in-ok-push-str.ensures.bytes ∙ ap (λ l. string_bytes c.loop-s.out ++ l) written)
+    (c.in_ok-push_str.ensures.bytes ∙ ap (λ l. string_bytes c.loop-s.out ++ l) written)
 
 pub returns : goal.returns
 returns c = search (rules, take_all)

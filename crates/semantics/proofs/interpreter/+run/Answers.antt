@@ -28,19 +28,19 @@ loop-round-init t c = rounds_none c.args.nodes.now c.in-Repeat.x c.args.elapsed 
 
 pub loop-round-preserved : goal.loop-round-preserved
 loop-round-preserved t c =
-    rounds_more c.args.nodes.now c.in-Repeat.x c.args.elapsed c.in-Repeat.rounds c.args.vars.now c.args.fault.now c.loop-round.-round c.loop-round.vars c.loop-round.fault c.run-in-loop-round.new.vars c.run-in-loop-round.new.fault
+    rounds_more c.args.nodes.now c.in-Repeat.x c.args.elapsed c.in-Repeat.rounds c.args.vars.now c.args.fault.now c.loop-round._round c.loop-round.vars c.loop-round.fault c.run-in-loop-round.new.vars c.run-in-loop-round.new.fault
     c.loop-round-test.true (search rules) c.loop-round.invariant c.run-in-loop-round.ensures
 
 pub returns-after-loop-round : goal.returns-after-loop-round
 returns-after-loop-round t c s h =
-    rounds_all c.args.nodes.now c.in-Repeat.x c.args.elapsed c.in-Repeat.rounds c.args.vars.now c.args.fault.now c.loop-round.-round c.loop-round.vars c.loop-round.fault
+    rounds_all c.args.nodes.now c.in-Repeat.x c.args.elapsed c.in-Repeat.rounds c.args.vars.now c.args.fault.now c.loop-round._round c.loop-round.vars c.loop-round.fault
     c.loop-round-test.false c.loop-round.invariant s (c.in-Repeat.ensures.stmt s h)
 
 pub returns-in-Delay : goal.returns-in-Delay
 returns-in-Delay t c s h =
     run_delay c.args.nodes.now c.args.elapsed c.args.vars.now c.args.fault.now c.in-Delay.out c.in-Delay.counter c.in-Delay.x c.delay.new.fault c.delay.new.vars c.delay.ensures s (c.in-Delay.ensures.stmt s h)
 
-pub returns-in-default : goal.returns-in-default
-returns-in-default t c s h =
-    let r = c.in-default in
-    run_other c.args.nodes.now c.args.elapsed c.args.vars.now c.args.fault.now c.node-at.result r.not-Assign r.not-Seq r.not-Branch r.not-Repeat r.not-Delay s (c.node-at.ensures.stmt s h)
+pub returns-in_default : goal.returns-in_default
+returns-in_default t c s h =
+    let r = c.in_default in
+    run_other c.args.nodes.now c.args.elapsed c.args.vars.now c.args.fault.now c.node_at.result r.not-Assign r.not-Seq r.not-Branch r.not-Repeat r.not-Delay s (c.node_at.ensures.stmt s h)

@@ -3,7 +3,7 @@ use Rattle.semantics.proofs.Measuring.{measure_literal, measure_variable, measur
 use Rattle.semantics.proofs.measure.+expr_needs.Goals as goal
 
 pub returns-in-Literal : goal.returns-in-Literal
-returns-in-Literal t c = record { small = search rules; measured = λ e h. measure_literal e c.in-Literal.-n (c.in-Literal.ensures.expr e h) }
+returns-in-Literal t c = record { small = search rules; measured = λ e h. measure_literal e c.in-Literal._n (c.in-Literal.ensures.expr e h) }
 
 pub returns-in-Variable : goal.returns-in-Variable
 returns-in-Variable t c =
@@ -12,14 +12,14 @@ returns-in-Variable t c =
 
 pub returns-in-Not : goal.returns-in-Not
 returns-in-Not t c =
-    rw c.one-more.ensures
-    (record { small = search rules; measured = λ e h. measure_not c.args.nodes.now c.in-Not.x c.expr-needs.result c.expr-needs.ensures.measured e (c.in-Not.ensures.expr e h) })
+    rw c.one_more.ensures
+    (record { small = search rules; measured = λ e h. measure_not c.args.nodes.now c.in-Not.x c.expr_needs.result c.expr_needs.ensures.measured e (c.in-Not.ensures.expr e h) })
 
 pub returns-in-Binary : goal.returns-in-Binary
 returns-in-Binary t c =
-    rw (c.one-more-in-Binary.ensures, c.followed_by.ensures, c.raised.ensures)
+    rw (c.one_more-in-Binary.ensures, c.followed_by.ensures, c.raised.ensures)
     (record {
       small = search rules;
-      measured = λ e h. measure_binary c.args.nodes.now c.in-Binary.-op c.in-Binary.x c.in-Binary.y c.expr-needs-left.result c.expr-needs-right.result
-          c.expr-needs-left.ensures.measured c.expr-needs-right.ensures.measured e (c.in-Binary.ensures.expr e h);
+      measured = λ e h. measure_binary c.args.nodes.now c.in-Binary._op c.in-Binary.x c.in-Binary.y c.expr_needs-left.result c.expr_needs-right.result
+          c.expr_needs-left.ensures.measured c.expr_needs-right.ensures.measured e (c.in-Binary.ensures.expr e h);
     })

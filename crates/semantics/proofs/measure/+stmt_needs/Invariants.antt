@@ -1,4 +1,4 @@
 use Rattle.semantics.proofs.measure.+stmt_needs.Given as goal
 
-abbrev pub decreases-stmt-needs : goal.decreases-stmt-needs
-decreases-stmt-needs l = l.i
+abbrev pub decreases-stmt_needs : goal.decreases-stmt_needs
+decreases-stmt_needs l = l.i

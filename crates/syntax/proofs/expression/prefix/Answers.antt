@@ -9,5 +9,5 @@ returns-in-Not c = rw (c.push.ensures.frames, c.push.ensures.top) (record { with
 pub returns-in-Open : goal.returns-in-Open
 returns-in-Open c = rw (c.push-in-Open.ensures.frames, c.push-in-Open.ensures.top) (record { within = omega arith; reads = an_open_mark c.args.mark c.args.frames.now c.args.top (deeper c.args.top) c.in-Open.is (omega arith) refl refl })
 
-pub returns-in-default : goal.returns-in-default
-returns-in-default c = record { within = omega arith; reads = no_prefix c.args.mark c.args.frames.now c.args.top c.in-default.not-Not c.in-default.not-Open }
+pub returns-in_default : goal.returns-in_default
+returns-in_default c = record { within = omega arith; reads = no_prefix c.args.mark c.args.frames.now c.args.top c.in_default.not-Not c.in_default.not-Open }

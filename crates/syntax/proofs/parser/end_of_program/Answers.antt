@@ -14,5 +14,5 @@ returns-else-up-eq0 c =
     subst (λ (x : State). EndsAll c.args.nodes.now c.args.frames.now x c.args.at c.close-up.new.nodes (Err c.args.at)) (sym c.in-Statement.is)
     (ends_inside c.args.nodes.now c.args.frames.now c.in-Statement.top c.args.at c.close-up.new.nodes c.close-up.result.used c.close-up.result.depth c.close-up.result.last c.close-up.ensures.closes c.if-up-eq0.false)
 
-pub returns-in-default : goal.returns-in-default
-returns-in-default c = ends_elsewhere c.args.nodes.now c.args.frames.now c.args.state c.args.at c.args.nodes.now c.in-default.not-Statement
+pub returns-in_default : goal.returns-in_default
+returns-in_default c = ends_elsewhere c.args.nodes.now c.args.frames.now c.args.state c.args.at c.args.nodes.now c.in_default.not-Statement

@@ -3,8 +3,8 @@ use Rattle.syntax.specs.Reading.{deeper}
 use Rattle.syntax.proofs.StatementTokens.{not_assigned, assigned}
 use Rattle.syntax.proofs.statement.after_name.Goals as goal
 
-pub returns-then-not-is-mark : goal.returns-then-not-is-mark
-returns-then-not-is-mark c = record { within = omega arith; reads = not_assigned c.args.token c.args.frames.now c.args.top c.args.name (sym c.is_mark.ensures ∙ c.if-not-is-mark.true) }
+pub returns-then-not-is_mark : goal.returns-then-not-is_mark
+returns-then-not-is_mark c = record { within = omega arith; reads = not_assigned c.args.token c.args.frames.now c.args.top c.args.name (sym c.is_mark.ensures ∙ c.if-not-is_mark.true) }
 
 pub returns : goal.returns
-returns c = rw (c.push.ensures.frames, c.push.ensures.top) (record { within = omega arith; reads = assigned c.args.token c.args.frames.now c.args.top c.args.name (deeper c.args.top) (sym c.is_mark.ensures ∙ c.if-not-is-mark.false) (omega arith) refl refl })
+returns c = rw (c.push.ensures.frames, c.push.ensures.top) (record { within = omega arith; reads = assigned c.args.token c.args.frames.now c.args.top c.args.name (deeper c.args.top) (sym c.is_mark.ensures ∙ c.if-not-is_mark.false) (omega arith) refl refl })

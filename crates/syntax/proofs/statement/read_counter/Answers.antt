@@ -5,5 +5,5 @@ use Rattle.syntax.proofs.statement.read_counter.Goals as goal
 pub returns-in-Name : goal.returns-in-Name
 returns-in-Name c = record { within = omega arith; reads = counter c.args.token c.args.top c.args.out c.in-Name.counter c.in-Name.is }
 
-pub returns-in-default : goal.returns-in-default
-returns-in-default c = record { within = omega arith; reads = no_counter c.args.token c.args.top c.args.out c.in-default.not-Name }
+pub returns-in_default : goal.returns-in_default
+returns-in_default c = record { within = omega arith; reads = no_counter c.args.token c.args.top c.args.out c.in_default.not-Name }

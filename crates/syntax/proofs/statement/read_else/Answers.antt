@@ -6,8 +6,8 @@ use Rattle.syntax.proofs.statement.read_else.Goals as goal
 pub returns-then-up-eq0 : goal.returns-then-up-eq0
 returns-then-up-eq0 c = record { within = omega arith; reads = no_then c.args.nodes.now c.args.frames.now c.args.top c.close-up.new.nodes c.close-up.result.used c.close-up.result.depth c.close-up.result.last c.close-up.ensures.closes (λ b x e q. omega (arith, c.if-up-eq0.true)) }
 
-pub returns-in-default : goal.returns-in-default
-returns-in-default c = record { within = omega arith; reads = no_then c.args.nodes.now c.args.frames.now c.args.top c.close-up.new.nodes c.close-up.result.used c.close-up.result.depth c.close-up.result.last c.close-up.ensures.closes (λ b x e q. c.in-default.not-ThenIn x (frame_at c.args.frames.now b (c.close-up.result.depth - 1) (omega arith) q)) }
+pub returns-in_default : goal.returns-in_default
+returns-in_default c = record { within = omega arith; reads = no_then c.args.nodes.now c.args.frames.now c.args.top c.close-up.new.nodes c.close-up.result.used c.close-up.result.depth c.close-up.result.last c.close-up.ensures.closes (λ b x e q. c.in_default.not-ThenIn x (frame_at c.args.frames.now b (c.close-up.result.depth - 1) (omega arith) q)) }
 
 pub returns : goal.returns
 returns c =

@@ -5,5 +5,5 @@ use Rattle.syntax.proofs.statement.read_out.Goals as goal
 pub returns-in-Name : goal.returns-in-Name
 returns-in-Name c = record { within = omega arith; reads = out c.args.token c.args.top c.in-Name.out c.in-Name.is }
 
-pub returns-in-default : goal.returns-in-default
-returns-in-default c = record { within = omega arith; reads = no_out c.args.token c.args.top c.in-default.not-Name }
+pub returns-in_default : goal.returns-in_default
+returns-in_default c = record { within = omega arith; reads = no_out c.args.token c.args.top c.in_default.not-Name }

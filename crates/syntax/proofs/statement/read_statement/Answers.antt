@@ -8,5 +8,5 @@ returns-in-Name c = record { within = omega arith; reads = starts_name c.args.to
 pub returns-in-Mark : goal.returns-in-Mark
 returns-in-Mark c = record { within = c.begin.ensures.within; reads = starts_mark c.args.token c.args.nodes.now c.args.frames.now c.args.top c.in-Mark.mark c.begin.new.nodes c.begin.new.frames c.begin.result c.in-Mark.is c.begin.ensures.reads }
 
-pub returns-in-default : goal.returns-in-default
-returns-in-default c = record { within = omega arith; reads = starts_not c.args.token c.args.nodes.now c.args.frames.now c.args.top c.in-default.not-Name c.in-default.not-Mark }
+pub returns-in_default : goal.returns-in_default
+returns-in_default c = record { within = omega arith; reads = starts_not c.args.token c.args.nodes.now c.args.frames.now c.args.top c.in_default.not-Name c.in_default.not-Mark }

@@ -6,7 +6,7 @@ use Rattle.lines.proofs.line.Line.at_end.Goals as goal
 pub returns : goal.returns
 unfolding left
 returns c = record {
-  same = c.skip-blanks.ensures.same;
-  value = c.is-empty.ensures ∙ ended_is _ _ c.skip-blanks.ensures.first ∙ ap ended c.skip-blanks.ensures.same;
-  place = place_is _ c.skip-blanks.new.self.text.now c.skip-blanks.ensures.first ∙ ap first_place c.skip-blanks.ensures.same;
+  same = c.skip_blanks.ensures.same;
+  value = c.is_empty.ensures ∙ ended_is _ _ c.skip_blanks.ensures.first ∙ ap ended c.skip_blanks.ensures.same;
+  place = place_is _ c.skip_blanks.new.self.text.now c.skip_blanks.ensures.first ∙ ap first_place c.skip_blanks.ensures.same;
 }

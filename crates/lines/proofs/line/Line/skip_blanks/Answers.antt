@@ -12,8 +12,8 @@ passed c =
     let byte = such_byte blank blank_ascii c.loop-after.text.now 0 found.0 (found.1 blank blank_is) in
     (byte.0, byte.1, byte.2 ∙ ap (λ l. byte.0 ∷ l) (sym found.2))
 
-pub overflow-add-at : goal.overflow-add-at
-overflow-add-at c = omega (arith, ap length (passed c).2)
+pub overflow_add-at : goal.overflow_add-at
+overflow_add-at c = omega (arith, ap length (passed c).2)
 
 pub loop-after-preserved : goal.loop-after-preserved
 loop-after-preserved c =
@@ -25,4 +25,4 @@ loop-after-smaller c = omega (arith, ap length (passed c).2)
 
 pub returns : goal.returns
 unfolding left
-returns c = record { same = c.loop-after.invariant.2; first = no_blank_first c.loop-after.text.now (c.in-default.ensures.cases blank blank_is) }
+returns c = record { same = c.loop-after.invariant.2; first = no_blank_first c.loop-after.text.now (c.in_default.ensures.cases blank blank_is) }
