@@ -1,4 +1,6 @@
 //! What all crates share: operations, why a request is refused, and (in specs/ and proofs/) words, stores and lent slices.
+#![tactic(auto)]
+
 ghost use Rattle.std.specs.Prelude.{◌≡◌};
 ghost use Rattle.base.specs.Ops.{op_code, op_of};
 ghost use Rattle.base.specs.Refusals.{number_of, place_of};

@@ -1,9 +1,9 @@
 -- Code that was made elsewhere and copied is written as it should be. Assumes nothing.
-use Rattle.std.proofs.Common.{◌≡◌, ℕ, suc, ◌+◌, ◌*◌, ◌/◌, ◌<◌, ◌≤◌, Bool, true, false, leb, List, ◌++◌, length, take, drop, Some, None, Ok, Err, Option, Result, sym, refl, ap, ◌∙◌, subst, arith}
+use Rattle.std.proofs.Common.{◌≡◌, ℕ, ◌+◌, ◌*◌, ◌<◌, ◌≤◌, leb, List, ◌++◌, length, take, drop, None, Ok, Err, Result, sym, ap, ◌∙◌, subst, arith}
 use Rattle.std.proofs.lemmas.Bool.{leb-true, leb-false}
 use Rattle.base.specs.declared.Refusal.{Refusal}
 use Rattle.base.specs.declared.Refusal.TheVariants.{Token, Program, Limit, Room, Length, Off, Time, Stamp, Point}
-use Rattle.base.specs.Refusals.{number_of, place_of, unless}
+use Rattle.base.specs.Refusals.{number_of, place_of}
 use Rattle.base.specs.Rooms.{write}
 use Rattle.base.proofs.Checks.{passed, refused_so}
 use Rattle.base.proofs.RoomLaws.{take_write, write_parts}

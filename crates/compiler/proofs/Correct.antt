@@ -1,16 +1,15 @@
 -- The code of a statement does what it means. Assumes nothing.
-use Rattle.std.proofs.Common.{◌≡◌, ℕ, zero, suc, ◌+◌, ◌-◌, ◌*◌, ◌<◌, ◌≤◌, max, Bool, true, false, cond, eqb, leb, List, [], ◌∷◌, ◌++◌, length, get_or, sym, refl, ap, ◌∙◌, subst, add-zero, suc-mul, arith, length-append}
+use Rattle.std.proofs.Common.{◌≡◌, ℕ, zero, suc, ◌+◌, ◌-◌, ◌*◌, ◌≤◌, max, Bool, true, false, cond, eqb, List, [], ◌∷◌, ◌++◌, length, get_or, sym, refl, ◌∙◌, add-zero, suc-mul, arith, length-append}
 use Rattle.std.proofs.lemmas.Bool.{lt-leb, ne_eqb}
 use Rattle.base.specs.Delays.{delayed}
 use Rattle.base.specs.declared.Op.{Op}
 use Rattle.syntax.specs.Ast.{Expr, lit, var, Stmt, skip, assign, seq, branch, repeat, delay}
 use Rattle.base.specs.Words.{bit, truthy, apply_op, op_fault, first_of}
 use Rattle.base.specs.Stores.{Store, update}
-use Rattle.semantics.specs.Eval.{eval, faults, Values, noted, iterate, exec}
+use Rattle.semantics.specs.Eval.{eval, faults, Values, iterate, exec}
 use Rattle.semantics.specs.Needs.{Need, need, expr_need, stmt_need}
 use Rattle.compiler.specs.Instr.{Instr, push, load, jump, jump_if_zero, enter, back, tick, stop}
-use Rattle.compiler.specs.Machine.{Machine, top, rest, step, steps}
-use Rattle.compiler.specs.Right.{Within}
+use Rattle.compiler.specs.Machine.{Machine, step}
 use Rattle.semantics.proofs.Faults.{first_zero, first_assoc}
 use Rattle.compiler.specs.Compile.{compile_expr, compile}
 use Rattle.compiler.proofs.Runs.{at, Placed, placed_left, placed_right, Runs, done, more, ◌then◌, one, by, land}

@@ -4,7 +4,7 @@ use Rattle.compiler.specs.Instr.{Instr, push, load, jump, jump_if_zero, enter, b
 use Rattle.base.specs.Rooms.{write}
 use Rattle.base.proofs.OpLaws.{op_of_code}
 use Rattle.base.proofs.RoomLaws.{take_write}
-use Rattle.compiler.specs.Code.{word, words, instr_of, code_in}
+use Rattle.compiler.specs.Code.{word, words, code_in}
 use Rattle.compiler.proofs.Writes.{length_words}
 
 pub code_in_words : (c : List Instr) → code_in (words c) ≡ c

@@ -1,5 +1,5 @@
 -- Tokens that are read as a tree and made into its code. Assumes nothing.
-use Rattle.std.proofs.Common.{◌≡◌, ℕ, suc, ◌+◌, ◌*◌, ◌/◌, ◌<◌, ◌≤◌, List, [], ◌∷◌, length, take, Ok, Err, Result, sym, refl, ap, ◌∙◌, subst, ⊎_elim, arith}
+use Rattle.std.proofs.Common.{◌≡◌, ℕ, ◌*◌, ◌/◌, ◌<◌, ◌≤◌, List, [], ◌∷◌, length, take, Ok, Err, Result, refl, subst, ⊎_elim, arith}
 use Rattle.std.proofs.lemmas.Bool.{cases_lt}
 use Rattle.base.specs.declared.Refusal.{Refusal}
 use Rattle.base.specs.declared.Refusal.TheVariants.{Token, Program, Limit, Room, Length, Off, Time, Stamp, Point}
@@ -7,14 +7,12 @@ use Rattle.lexer.specs.Pairs.{tokens_in}
 use Rattle.syntax.specs.Ast.{Stmt}
 use Rattle.syntax.specs.Grammar.{Reads}
 use Rattle.syntax.specs.Names.{Below}
-use Rattle.syntax.specs.Theorems.{OneTree, Placed}
-use Rattle.syntax.specs.Shape.{Fine, WellShaped, Misshapen}
+use Rattle.syntax.specs.Theorems.{OneTree}
+use Rattle.syntax.specs.Shape.{WellShaped}
 use Rattle.semantics.specs.Eval.{meaning}
-use Rattle.semantics.specs.Needs.{stmt_need}
 use Rattle.semantics.proofs.Reach.{stmt_reach}
-use Rattle.compiler.specs.Compile.{compile}
 use Rattle.compiler.specs.Right.{Compiled}
-use Rattle.compiler.specs.Made.{Unfit, Coded, Codes, Made, Unmade, Refused, Makes, MakesRight, NeverShort}
+use Rattle.compiler.specs.Made.{Codes, Makes, MakesRight, NeverShort}
 use Rattle.compiler.proofs.Coding.{coded_right}
 use Rattle.compiler.proofs.Short.{short_code}
 

@@ -1,15 +1,12 @@
 -- The code of a program is right for it. Assumes nothing.
-use Rattle.std.proofs.Common.{◌≡◌, ℕ, zero, suc, ◌+◌, ◌*◌, ◌<◌, ◌≤◌, ◌⊎◌, List, [], ◌∷◌, ◌++◌, length, get_or, sym, refl, ap, ◌∙◌, subst, inl, inr, arith, length-append}
-use Rattle.std.proofs.lemmas.Bool.{cases_lt}
-use Rattle.syntax.specs.Ast.{Stmt, skip, assign, seq, branch, repeat, delay}
+use Rattle.std.proofs.Common.{ℕ, [], length, refl, ap, arith}
+use Rattle.syntax.specs.Ast.{Stmt}
 use Rattle.semantics.specs.Eval.{Values, exec}
-use Rattle.semantics.specs.Needs.{Need, need, stmt_need}
-use Rattle.compiler.specs.Instr.{Instr, jump, stop}
-use Rattle.compiler.specs.Machine.{Machine, step, steps, boot}
-use Rattle.compiler.specs.Right.{Finished, Within, Right}
-use Rattle.compiler.specs.Compile.{compile_expr, compile, CompileRight}
-use Rattle.compiler.proofs.Runs.{at, Placed, placed_left, placed_right, placed_whole, getD_end, Runs, done, more, ◌then◌, arrives, always, one, land}
-use Rattle.compiler.proofs.Correct.{Room, on, stmt_does}
+use Rattle.semantics.specs.Needs.{stmt_need}
+use Rattle.compiler.specs.Machine.{boot}
+use Rattle.compiler.specs.Compile.{compile, CompileRight}
+use Rattle.compiler.proofs.Runs.{placed_whole, getD_end, Runs, arrives, always, land}
+use Rattle.compiler.proofs.Correct.{on, stmt_does}
 
 -- from the start of the code to its end
 whole : (s : Stmt) (elapsed : ℕ) (r : Values) → Runs elapsed (compile s) (stmt_need s) (stmt_need s).cost (boot r) (on elapsed 0 (compile s) (length (compile s)) [] [] (exec elapsed 0 s r))

@@ -1,5 +1,5 @@
 -- Runs of the machine that are composed: at most k instructions, and within limits. Assumes nothing.
-use Rattle.std.proofs.Common.{◌≡◌, ℕ, zero, suc, ◌+◌, ◌<◌, ◌≤◌, List, [], ◌∷◌, ◌++◌, length, get_or, sym, refl, ap, ◌∙◌, subst, subst₂, suc-le-suc, zero-le, le_of_suc-le-suc, not-suc-le-zero, add-zero, add-suc, suc-add, zero-add, add-one, arith}
+use Rattle.std.proofs.Common.{◌≡◌, ℕ, zero, suc, ◌+◌, ◌≤◌, List, [], ◌∷◌, ◌++◌, length, get_or, refl, subst₂, suc-le-suc, zero-le, le_of_suc-le-suc, not-suc-le-zero, add-zero, suc-add, add-one, arith}
 use Rattle.base.specs.Stores.{Store}
 use Rattle.semantics.specs.Needs.{Need}
 use Rattle.compiler.specs.Instr.{Instr, stop}

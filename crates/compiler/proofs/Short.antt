@@ -1,10 +1,8 @@
 -- A program has no more instructions than tokens. Assumes nothing.
-use Rattle.std.proofs.Common.{◌≡◌, ℕ, suc, ◌+◌, ◌≤◌, List, [], ◌∷◌, ◌++◌, length, arith, length-append}
+use Rattle.std.proofs.Common.{ℕ, ◌≤◌, List, length, arith, length-append}
 use Rattle.lexer.specs.declared.Token.{Token}
-use Rattle.lexer.specs.declared.Token.TheVariants.{Number, Name, Operator, Mark as mark}
-use Rattle.syntax.specs.Ast.{Expr, lit, var, invert, binary, Stmt, skip, assign, seq, branch, repeat, delay}
+use Rattle.syntax.specs.Ast.{Expr, Stmt}
 use Rattle.syntax.specs.Grammar.{ReadsExpr, a_number, a_name, a_not, in_brackets, looser, an_operation, Reads, no_more, an_assign, a_branch, a_repeat, a_delay}
-use Rattle.compiler.specs.Instr.{Instr}
 use Rattle.compiler.specs.Compile.{compile_expr, compile}
 use Rattle.compiler.specs.Size.{ShortCode}
 

@@ -1,12 +1,10 @@
 -- The code of a tree, by the code of its parts. Assumes nothing.
 use Rattle.std.proofs.Common.{◌≡◌, ℕ, ◌-◌, ◌/◌, List, [], ◌∷◌, ◌++◌, sym, refl, ap}
-use Rattle.base.specs.Ops.{op_code}
-use Rattle.syntax.specs.Ast.{Expr, lit, var, invert, binary, Stmt, skip, assign, seq, branch, repeat, delay}
-use Rattle.syntax.specs.Tree.{Holds, HoldsSetting, HoldsStmt}
+use Rattle.syntax.specs.Ast.{Expr, Stmt}
 use Rattle.syntax.specs.Node.{IsExpr, IsStmt, IsSetting}
 use Rattle.syntax.specs.declared.node.Node.{Node}
 use Rattle.syntax.specs.declared.node.Node.TheVariants.{Literal, Variable, Not, Binary, Skip, Assign, Seq, Branch, Repeat, Delay, Setting, Broken}
-use Rattle.compiler.specs.Instr.{Instr, push, load, enter, back, tick}
+use Rattle.compiler.specs.Instr.{Instr, push, load, tick}
 use Rattle.compiler.specs.Code.{word}
 use Rattle.compiler.specs.Compile.{compile_expr, compile}
 use Rattle.compiler.specs.Emitted.{Appends, Puts, Reserves, Patches, EmitsExpr, EmitsDelay, Emits}

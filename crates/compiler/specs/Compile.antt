@@ -1,5 +1,5 @@
 -- The code of a program. Assumes nothing: these are definitions.
-use Rattle.std.specs.Prelude.{ℕ, suc, List, [], ◌∷◌, ◌++◌, length}
+use Rattle.std.specs.Prelude.{suc, List, [], ◌∷◌, ◌++◌, length}
 use Rattle.syntax.specs.Ast.{Expr, lit, var, Stmt, skip, assign, seq, branch, repeat, delay}
 use Rattle.semantics.specs.Eval.{meaning}
 use Rattle.semantics.specs.Needs.{stmt_need}

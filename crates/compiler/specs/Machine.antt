@@ -1,5 +1,5 @@
 -- The machine, and what each instruction does. Assumes nothing: these are definitions.
-use Rattle.std.specs.Prelude.{ℕ, zero, suc, ◌+◌, ◌-◌, Bool, cond, List, [], ◌∷◌, ◌==◌, nat_le, slice_index_or}
+use Rattle.std.specs.Prelude.{ℕ, zero, suc, ◌+◌, ◌-◌, cond, List, [], ◌∷◌, ◌==◌, nat_le, slice_index_or}
 use Rattle.base.specs.Delays.{delayed}
 use Rattle.base.specs.Stores.{Store, update}
 use Rattle.base.specs.Words.{bit, truthy, apply_op, op_fault, first_of}

@@ -11,7 +11,7 @@ use Rattle.syntax.specs.Shape.{WellShaped, Misshapen}
 use Rattle.syntax.specs.Tree.{HoldsStmt}
 use Rattle.semantics.specs.Eval.{meaning}
 use Rattle.semantics.specs.Limits.{passes_limit}
-use Rattle.semantics.specs.Needs.{Need, stmt_need, Fits}
+use Rattle.semantics.specs.Needs.{stmt_need, Fits}
 use Rattle.compiler.specs.Code.{words}
 use Rattle.compiler.specs.Compile.{compile}
 use Rattle.compiler.specs.Right.{Compiled}

@@ -1,4 +1,6 @@
 //! Programs made into code.
+#![tactic(auto)]
+
 ghost use Rattle.compiler.specs.Compile.{CompileRight};
 ghost use Rattle.compiler.specs.Size.{ShortCode};
 

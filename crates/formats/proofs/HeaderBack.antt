@@ -1,16 +1,15 @@
 -- A project that is written out is read back.
-use Rattle.std.proofs.Common.{◌≡◌, ℕ, ◌+◌, ◌^◌, ◌<◌, Bool, true, false, ◌≢◌, List, [], ◌∷◌, ◌++◌, map, length, get_or, drop, set, replicate, Some, None, Ok, codes, decimal, Option, sym, refl, ap, ◌∙◌, append_assoc, arith, length-append, get_or-set_other}
+use Rattle.std.proofs.Common.{◌≡◌, ℕ, ◌+◌, ◌^◌, ◌<◌, Bool, true, false, ◌≢◌, List, [], ◌∷◌, ◌++◌, map, length, get_or, drop, set, replicate, Some, None, Ok, codes, decimal, sym, refl, ap, ◌∙◌, append_assoc, arith, length-append, get_or-set_other}
 use Rattle.std.proofs.lemmas.List.{drop_at, get_or-replicate}
 use Rattle.headers.specs.declared.header.Header.{Header}
 use Rattle.scripts.specs.declared.script.Input.{Input}
 use Rattle.lines.specs.Words.{end, blank, words_on, lines_on}
 use Rattle.lines.specs.Reading.{took, outcome}
-use Rattle.headers.specs.Header.{Plan, blank_header, take_marks, take_header_line, read_header_line, finished, read_header, read_project}
+use Rattle.headers.specs.Header.{blank_header, take_marks, take_header_line, read_header_line, finished, read_header, read_project}
 use Rattle.formats.specs.HeaderText.{words_line, first_lines, header_text, marked, valued, Variables, LacksVariable, Distinct, ProjectReadsBack}
 use Rattle.formats.specs.ScriptText.{spaced, name_text, InputsFit}
-use Rattle.lines.proofs.LineCuts.{Lacks}
 use Rattle.headers.proofs.HeaderLines.{header_program, header_more}
-use Rattle.formats.proofs.Written.{known, number_back, name_back, variable_back, value_back, Word, number_word, name_word, AllWords, place, line_end, line_lacks}
+use Rattle.formats.proofs.Written.{known, number_back, variable_back, value_back, Word, number_word, name_word, AllWords, place, line_end, line_lacks}
 
 -- a written line is cut off, and what follows it is read on
 line_cut : (w : List ℕ) (ws : List (List ℕ)) (more program : List ℕ) → (words_line w ws ++ more) ++ program ≡ (w ++ spaced ws) ++ (10 ∷ (more ++ program))

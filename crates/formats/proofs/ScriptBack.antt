@@ -1,12 +1,12 @@
 -- A script that is written out is read back.
-use Rattle.std.proofs.Common.{◌≡◌, ℕ, ◌+◌, ◌^◌, ◌<◌, true, List, [], ◌∷◌, ◌++◌, length, Ok, codes, decimal, sym, refl, ap, ◌∙◌, append_assoc, append-nil, arith}
+use Rattle.std.proofs.Common.{◌≡◌, ℕ, ◌+◌, List, [], ◌∷◌, ◌++◌, length, Ok, codes, decimal, sym, refl, ap, ◌∙◌, append_assoc, append-nil, arith}
 use Rattle.scripts.specs.declared.script.Input.{Input}
-use Rattle.lines.specs.Words.{Words, end, word, words_on, lines_on}
+use Rattle.lines.specs.Words.{end, word, words_on, lines_on}
 use Rattle.lines.specs.Reading.{took, and_ok, outcome}
 use Rattle.scripts.specs.Script.{Request, start, scan, cut, force, free, take_pairs, take_inputs, take_line, read_line, read_lines, read_script}
 use Rattle.formats.specs.ScriptText.{spaced, name_text, keyword, arguments, inputs_of, input_words, inputs_text, line_text, script_text, InputsFit, RequestFits, RequestsFit, ScriptReadsBack}
 use Rattle.lines.proofs.Cuts.{Ends, first_colon, begins_end}
-use Rattle.lines.proofs.LineCuts.{Lacks, first_line, last_line}
+use Rattle.lines.proofs.LineCuts.{Lacks, first_line}
 use Rattle.formats.proofs.Written.{known, number_back, name_back, variable_back, value_back, Word, clean_lacks, number_word, name_word, AllWords, place, spaced_end, line_cut, lacks_append, lacks_cons, spaced_lacks}
 
 inputs_are_words : (is : List Input) → InputsFit is → AllWords (input_words is)

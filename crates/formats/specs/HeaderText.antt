@@ -1,5 +1,5 @@
 -- A project as it is written: what is kept, what comes from outside, what variables are at first, and the program. Assumes nothing: these are definitions.
-use Rattle.std.specs.Prelude.{◌≡◌, ℕ, ◌^◌, ◌<◌, List, [], ◌∷◌, ◌++◌, map, length, set, replicate, Ok, codes, decimal, ◌≢◌, slice_set}
+use Rattle.std.specs.Prelude.{◌≡◌, ℕ, ◌^◌, ◌<◌, List, [], ◌∷◌, ◌++◌, map, length, replicate, Ok, codes, decimal, ◌≢◌, slice_set}
 use Rattle.scripts.specs.declared.script.Input.{Input}
 use Rattle.headers.specs.Header.{read_project}
 use Rattle.formats.specs.ScriptText.{spaced, name_text, InputsFit}

@@ -1,4 +1,6 @@
 //! The two formats that people write, projects and scripts: what is written out in them is read back as itself.
+#![tactic(auto)]
+
 ghost use Rattle.formats.specs.HeaderText.{ProjectReadsBack};
 ghost use Rattle.formats.specs.ScriptText.{ScriptReadsBack};
 

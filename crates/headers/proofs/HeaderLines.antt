@@ -1,11 +1,11 @@
 -- A header read line by line.
-use Rattle.std.proofs.Common.{◌≡◌, ℕ, ◌+◌, ◌<◌, Bool, true, false, List, [], ◌∷◌, ◌++◌, length, drop, set, Some, None, Ok, Err, Option, Result, sym, refl, ap, ◌∙◌, append_assoc, arith, length-append}
+use Rattle.std.proofs.Common.{◌≡◌, ℕ, ◌+◌, true, false, List, [], ◌∷◌, ◌++◌, length, drop, set, Some, None, Ok, Err, Option, sym, refl, ap, ◌∙◌, append_assoc, length-append}
 use Rattle.std.proofs.lemmas.List.{drop_at, drop-drop}
-use Rattle.std.proofs.lemmas.Bool.{both_ways, cond_both, ltb-true}
+use Rattle.std.proofs.lemmas.Bool.{both_ways}
 use Rattle.headers.specs.declared.header.Header.{Header}
 use Rattle.lines.specs.Words.{Words, end, word, lines_on}
-use Rattle.lines.specs.Reading.{Took, took, wrong, and_then, read_as, below, take, take_variable, variable_of, name_of, ended}
-use Rattle.headers.specs.Header.{Plan, take_marks, read_header_line, finished, read_header}
+use Rattle.lines.specs.Reading.{took, wrong, and_then, read_as, take_variable, variable_of, ended}
+use Rattle.headers.specs.Header.{take_marks, read_header_line, finished, read_header}
 use Rattle.lines.proofs.LineCuts.{Lacks, first_line, last_line}
 
 -- a turn of the loop over marks, and its end

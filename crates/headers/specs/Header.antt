@@ -1,5 +1,5 @@
 -- What a project's text says: a header line by line, and then the program's text. Assumes nothing: these are definitions.
-use Rattle.std.specs.Prelude.{ℕ, ◌+◌, Bool, true, false, cond, List, [], ◌∷◌, length, drop, replicate, is_some, Some, None, Ok, Err, codes, Option, Result, slice_index_or, slice_set}
+use Rattle.std.specs.Prelude.{ℕ, ◌+◌, Bool, true, false, cond, List, [], length, drop, replicate, is_some, Some, None, Ok, Err, codes, Option, Result, slice_index_or, slice_set}
 use Rattle.std.specs.Option.{unwrap_or}
 use Rattle.std.specs.Str.{bytes_eq}
 use Rattle.headers.specs.declared.header.Header.{Header}

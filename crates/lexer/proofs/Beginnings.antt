@@ -2,7 +2,7 @@
 use Rattle.std.proofs.Common.{◌≡◌, ℕ, suc, ◌+◌, ◌<◌, ◌≤◌, false, ◌⊎◌, List, [], ◌++◌, length, get_or, take, drop, sym, refl, ap, ◌∙◌, subst, arith, length-append, take-append-drop}
 use Rattle.std.proofs.lemmas.List.{drop_more, length-take-le}
 use Rattle.lexer.specs.Token.{blank, Cuts, Stuck}
-use Rattle.lexer.specs.Outcome.{Whole, Begins, PlaceOfToken}
+use Rattle.lexer.specs.Outcome.{Whole, PlaceOfToken}
 use Rattle.lexer.proofs.Passes.{Sofar, counted, broken}
 use Rattle.lexer.proofs.Cutting.{one_way, peel, head_of, refused_rightly_lem}
 

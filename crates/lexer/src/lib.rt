@@ -1,4 +1,6 @@
 //! A text cut into tokens, which are written to a lent room as pairs of numbers.
+#![tactic(auto)]
+
 ghost use Rattle.std.specs.Prelude.{◌≡◌};
 ghost use Rattle.lexer.specs.Outcome.{Tokenized, PlaceOfToken};
 ghost use Rattle.lexer.specs.Laws.{OneWay, OnePlace, RefusedRightly, PlaceInCharacters, BlanksAlike, BlanksBetween, PairsBack, PairIsToken, OnePair};

@@ -1,7 +1,7 @@
 -- How many words of a line are left.
 use Rattle.std.proofs.Common.{◌≡◌, ℕ, suc, ◌<◌, List, Some, None, Option, ap, arith}
 use Rattle.lines.specs.Words.{Words, end, word}
-use Rattle.lines.specs.Reading.{Took, took, wrong, and_then, read_as, take, take_word}
+use Rattle.lines.specs.Reading.{took, read_as, take}
 
 -- how many words are left
 abbrev pub word_count : Words → ℕ

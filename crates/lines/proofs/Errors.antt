@@ -1,5 +1,5 @@
 -- What an error says, carried on.
-use Rattle.std.proofs.Common.{◌≡◌, ℕ, Bool, true, false, List, Ok, Err, Result}
+use Rattle.std.proofs.Common.{◌≡◌, ℕ, false, List, Err, Result}
 use Rattle.std.specs.Str.{bytes_eq}
 use Rattle.std.proofs.lemmas.Slice.Eq.{bytes_eq-Decides}
 use Rattle.std.proofs.lemmas.Bool.{false≢true}

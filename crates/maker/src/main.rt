@@ -1,33 +1,33 @@
 //! Prints the code of the project that the first argument names, and what it needs.
-use anyhow::anyhow;
 use project::listing::listing;
 use project::message::message;
+use std::process::ExitCode;
 use std::{env, fs};
 
-fn main(rt: HostRuntime) -> anyhow::Result<()> {
+fn main(rt: HostRuntime) -> anyhow::Result<ExitCode> {
     let heap = rt.alloc();
     let mut args = env::args(&rt)?;
     let _program = args.next();
     let Some(path) = args.next() else {
         eprintln!(rt; "usage: maker PROJECT")?;
-        return Err(anyhow!("usage"));
+        return Ok(ExitCode::FAILURE);
     };
     let project = match fs::read_to_string(&rt, path.as_str()) {
         Ok(project) => project,
         Err(error) => {
             eprintln!(rt; "{path}: {error}")?;
-            return Err(anyhow!("unreadable"));
+            return Ok(ExitCode::FAILURE);
         }
     };
     match listing(heap, project.as_str()) {
         Ok(text) => {
-            print!(rt, "{text}")?;
-            Ok(())
+            print!(rt; "{text}")?;
+            Ok(ExitCode::SUCCESS)
         }
         Err(failure) => {
             let line = message(heap, path.as_str(), project.as_str(), "", &failure)?;
             eprintln!(rt; "{line}")?;
-            Err(anyhow!("refused"))
+            Ok(ExitCode::FAILURE)
         }
     }
 }

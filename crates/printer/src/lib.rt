@@ -1,4 +1,6 @@
 //! A tree written as tokens: the one shortest row of them that reads as it.
+#![tactic(auto)]
+
 ghost use Rattle.syntax.specs.Printer.{PrintsBack, Shortest};
 ghost use Rattle.printer.specs.Reprints.{Reprints};
 

@@ -1,5 +1,5 @@
 -- What a report says, and the text of its line. Assumes nothing: these are definitions.
-use Rattle.std.specs.Prelude.{ℕ, Bool, true, false, List, [], ◌∷◌, ◌++◌, vec_items, codes, decimal}
+use Rattle.std.specs.Prelude.{ℕ, Bool, true, false, List, [], ◌++◌, vec_items, codes, decimal}
 use Rattle.std.specs.List.{flat_map}
 use Rattle.reports.specs.declared.report.Setting.{Setting}
 use Rattle.reports.specs.declared.report.Report.{Report}

@@ -2,6 +2,8 @@
 //!
 //! Each function takes any cells. It refuses, and changes nothing, where a parameter doesn't fit: more than 64 values, a
 //! device that isn't `2 * (kept + 2)` cells, a list shorter than it has to be; the first such parameter is told.
+#![tactic(auto)]
+
 ghost use Rattle.std.specs.Prelude.{◌≡◌, length};
 ghost use Rattle.base.specs.Refusals.{Answered, Checked};
 ghost use Rattle.retain.specs.History.{Retained, Ruled};

@@ -1,5 +1,5 @@
 -- What a script asks of the controller, line by line. Assumes nothing: these are definitions.
-use Rattle.std.specs.Prelude.{ℕ, cond, List, [], ◌∷◌, ◌++◌, Ok, Err, vec_items, codes, Result, nat_lt}
+use Rattle.std.specs.Prelude.{ℕ, cond, List, [], ◌∷◌, ◌++◌, Ok, vec_items, codes, Result, nat_lt}
 use Rattle.std.specs.Str.{bytes_eq}
 use Rattle.base.specs.Stores.{Store, update}
 use Rattle.scripts.specs.declared.script.Input.{Input}

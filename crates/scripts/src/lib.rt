@@ -1,2 +1,4 @@
 //! Scripts: texts that say what happens to a controller.
+#![tactic(auto)]
+
 pub mod script;

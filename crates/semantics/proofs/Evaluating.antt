@@ -1,18 +1,18 @@
 -- What a tree comes to, by what its parts come to. Assumes nothing.
-use Rattle.std.proofs.Common.{◌≡◌, ℕ, zero, suc, ◌+◌, ◌-◌, ◌<◌, ◌≤◌, Bool, true, false, cond, eqb, List, length, sym, refl, ap, ◌∙◌, zero-add, arith}
+use Rattle.std.proofs.Common.{◌≡◌, ℕ, zero, suc, ◌+◌, ◌-◌, ◌<◌, ◌≤◌, Bool, true, false, eqb, List, length, sym, refl, ap, ◌∙◌, zero-add, arith}
 use mir.Val.{bool_byte}
 use Rattle.base.specs.Delays.{delayed}
 use Rattle.base.specs.Ops.{op_of}
 use Rattle.base.proofs.OpLaws.{op_of_code}
 use Rattle.base.specs.Stores.{Store, update, cells}
 use Rattle.base.specs.Words.{bit, truthy, apply_op, op_fault, first_of}
-use Rattle.syntax.specs.Ast.{Expr, lit, var, invert, binary, Stmt, skip, assign, seq, branch, repeat, delay}
-use Rattle.syntax.specs.Tree.{Holds, HoldsSetting, HoldsStmt}
+use Rattle.syntax.specs.Ast.{Expr, Stmt, delay}
+use Rattle.syntax.specs.Tree.{HoldsStmt}
 use Rattle.syntax.specs.Node.{IsExpr, IsStmt, IsSetting}
 use Rattle.syntax.specs.declared.node.Node.{Node}
 use Rattle.syntax.specs.declared.node.Node.TheVariants.{Literal, Variable, Not, Binary, Skip, Assign, Seq, Branch, Repeat, Delay, Setting, Broken}
 use Rattle.semantics.specs.Eval.{Values, eval, faults, iterate, exec}
-use Rattle.semantics.specs.Needs.{expr_need, stmt_need}
+use Rattle.semantics.specs.Needs.{stmt_need}
 use Rattle.semantics.specs.Evaluated.{values_in, Valued, ValuesExpr, Ran, RunsDelay, RunsStmt}
 use Rattle.semantics.proofs.Faults.{first_zero, first_assoc}
 

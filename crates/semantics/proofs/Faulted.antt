@@ -1,9 +1,8 @@
 -- The first fault stays, and stops nothing. Assumes nothing.
-use Rattle.std.proofs.Common.{◌≡◌, ℕ, zero, suc, ◌+◌, ◌<◌, Bool, true, false, cond, eqb, refl, ap, ◌∙◌}
+use Rattle.std.proofs.Common.{◌≡◌, ℕ, zero, suc, ◌<◌, Bool, true, false, cond, eqb, refl, ap, ◌∙◌}
 use mathlib.Core.Path.{fun_ext}
 use Rattle.syntax.specs.Ast.{Stmt, skip, assign, seq, branch, repeat, delay}
 use Rattle.base.specs.Stores.{Store}
-use Rattle.base.specs.Words.{first_of}
 use Rattle.semantics.specs.Eval.{eval, faults, Values, noted, iterate, exec}
 use Rattle.semantics.specs.Laws.{FirstStays, Goes_on}
 use Rattle.semantics.proofs.Faults.{first_stays}

@@ -1,10 +1,8 @@
 -- What is known of a program that passes a limit, or none. Assumes nothing.
-use Rattle.std.proofs.Common.{◌≡◌, ℕ, ◌≤◌, min, Bool, true, false, cond, leb, Some, None, Option, sym, refl, ap, ◌∙◌, arith}
+use Rattle.std.proofs.Common.{◌≡◌, ℕ, min, Bool, true, false, leb, Some, None, Option, ap, ◌∙◌, arith}
 use Rattle.std.proofs.lemmas.Bool.Decides.{nat_tests}
 use Rattle.base.proofs.Checks.{passed}
-use Rattle.base.specs.declared.Refusal.{Refusal}
-use Rattle.base.specs.declared.Refusal.TheVariants.{Token, Program, Limit, Room, Length, Off, Time, Stamp, Point}
-use Rattle.base.specs.Refusals.{number_of, place_of, unless}
+use Rattle.base.specs.Refusals.{unless}
 use Rattle.semantics.specs.Limits.{passes_limit}
 use Rattle.semantics.specs.Needs.{Need, Fits}
 use Rattle.semantics.specs.Measured.{Measures}

@@ -1,13 +1,13 @@
 -- What a tree needs, by what its parts need. Assumes nothing.
-use Rattle.std.proofs.Common.{◌≡◌, ℕ, zero, suc, ◌+◌, ◌*◌, ◌<◌, ◌≤◌, min, max, List, sym, refl, ap, ◌∙◌, ⊎_elim, suc-mul, zero-mul, arith}
+use Rattle.std.proofs.Common.{◌≡◌, ℕ, zero, suc, ◌+◌, ◌*◌, min, List, refl, ap, ◌∙◌, ⊎_elim, suc-mul, zero-mul, arith}
 use Rattle.std.proofs.lemmas.Bool.{cases_lt}
-use Rattle.syntax.specs.Ast.{Expr, lit, var, invert, binary, Stmt, skip, assign, seq, branch, repeat, delay}
-use Rattle.syntax.specs.Node.{IsExpr, IsStmt, IsSetting}
+use Rattle.syntax.specs.Ast.{Expr, lit, var, invert, binary, Stmt}
+use Rattle.syntax.specs.Node.{IsExpr, IsStmt}
 use Rattle.syntax.specs.declared.node.Node.{Node}
 use Rattle.syntax.specs.declared.node.Node.TheVariants.{Literal, Variable, Not, Binary, Skip, Assign, Seq, Branch, Repeat, Delay, Setting, Broken}
-use Rattle.semantics.specs.Needs.{Need, expr_need, stmt_need}
+use Rattle.semantics.specs.Needs.{expr_need, stmt_need}
 use Rattle.semantics.specs.Joins.{told, one_more, raised, followed_by, either, repeated, reaching}
-use Rattle.semantics.specs.Measured.{Measures, Small, MeasuredExpr, MeasuredSetting, Measured}
+use Rattle.semantics.specs.Measured.{Measures, MeasuredExpr, MeasuredSetting, Measured}
 use Rattle.semantics.specs.declared.limits.Needs.{Needs}
 
 -- an expression repeats nothing

@@ -1,5 +1,5 @@
 -- A program whose variables are below a number reaches no further. Assumes nothing.
-use Rattle.std.proofs.Common.{ℕ, suc, ◌<◌, ◌≤◌, max, arith}
+use Rattle.std.proofs.Common.{ℕ, ◌≤◌, arith}
 use Rattle.syntax.specs.Ast.{Expr, lit, var, invert, binary, Stmt, skip, assign, seq, branch, repeat, delay}
 use Rattle.syntax.specs.Names.{ExprBelow, Below}
 use Rattle.semantics.specs.Needs.{expr_need, stmt_need}

@@ -1,4 +1,6 @@
 //! What a scan does, costs and needs, and the limits of what is taken.
+#![tactic(auto)]
+
 ghost use Rattle.std.specs.Prelude.{◌≡◌, min};
 ghost use Rattle.syntax.specs.Ast.{Stmt};
 ghost use Rattle.syntax.specs.Tree.{HoldsStmt};

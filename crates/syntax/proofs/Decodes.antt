@@ -1,5 +1,5 @@
 -- A node that holds a tree is read as such. Assumes nothing.
-use Rattle.std.proofs.Common.{◌≡◌, ℕ, ◌+◌, ◌*◌, ◌<◌, ◌≤◌, Bool, true, false, cond, ◌&&◌, eqb, ltb, List, get_or, sym, refl, ap, ◌∙◌, subst, add-zero, arith, lt-ltb}
+use Rattle.std.proofs.Common.{◌≡◌, ℕ, ◌+◌, ◌*◌, ◌<◌, Bool, true, false, cond, ◌&&◌, eqb, ltb, List, get_or, sym, refl, ap, ◌∙◌, subst, add-zero, arith, lt-ltb}
 use Rattle.std.proofs.lemmas.Bool.Decides.{nat_tests}
 use Rattle.base.specs.declared.Op.{Op}
 use Rattle.base.specs.declared.Op.TheVariants.{Add, Sub, Mul, Div, Less, Equal, And, Or}
@@ -8,7 +8,6 @@ use Rattle.syntax.specs.Ast.{Expr, lit, var, invert, binary, Stmt, skip, assign,
 use Rattle.syntax.specs.Tree.{cell, Holds, HoldsSetting, HoldsStmt}
 use Rattle.syntax.specs.Node.{node_of, Lower, IsExpr, IsStmt, IsSetting, Decoded}
 use Rattle.syntax.specs.declared.node.Node.{Node}
-use Rattle.syntax.specs.declared.node.Node.TheVariants.{Literal, Variable, Not, Binary, Skip, Assign, Seq, Branch, Repeat, Delay, Setting, Broken}
 
 -- a test passed, or not
 guarded : (i : ℕ) (b : Bool) (x y : Node) → (b ≡ true → Lower i x) → Lower i y → Lower i (cond b x y)

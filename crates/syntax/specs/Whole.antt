@@ -1,5 +1,5 @@
 -- What is read of a whole program. Assumes nothing: these are definitions.
-use Rattle.std.specs.Prelude.{◌≡◌, ℕ, ◌/◌, ◌≤◌, List, length, Ok, Err, Option, Result}
+use Rattle.std.specs.Prelude.{◌≡◌, ℕ, ◌/◌, ◌≤◌, List, length, Ok, Err, Result}
 use Rattle.std.proofs.Math.Option as option
 use Rattle.syntax.specs.Ast.{Stmt}
 use Rattle.syntax.specs.Parser.{accepted, refused, parse, whole_program}

@@ -1,4 +1,6 @@
 //! Tokens read as a tree.
+#![tactic(auto)]
+
 ghost use Rattle.syntax.specs.Names.{ProgramFits};
 ghost use Rattle.syntax.specs.Theorems.{Sound, Complete, OneTree, RightPlace, OnePlace};
 

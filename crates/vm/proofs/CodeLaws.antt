@@ -1,5 +1,5 @@
 -- Where an instruction stands in a row of numbers.
-use Rattle.std.proofs.Common.{◌≡◌, ℕ, zero, suc, ◌+◌, ◌-◌, ◌*◌, ◌/◌, ◌<◌, ◌≤◌, List, [], ◌∷◌, length, get_or, sym, refl, ap, ◌∙◌, arith}
+use Rattle.std.proofs.Common.{◌≡◌, ℕ, zero, suc, ◌+◌, ◌*◌, ◌/◌, ◌<◌, List, [], ◌∷◌, length, get_or, sym, refl, ◌∙◌, arith}
 use Rattle.compiler.specs.Instr.{Instr, stop}
 use Rattle.compiler.specs.Code.{instr_of, code_in}
 

@@ -1,5 +1,5 @@
 -- From the last machine of a run to what `run` answers.
-use Rattle.std.proofs.Common.{◌≡◌, ℕ, ◌/◌, cond, List, length, sym, ap, ◌∙◌}
+use Rattle.std.proofs.Common.{◌≡◌, ℕ, ◌/◌, List, length, sym, ap, ◌∙◌}
 use Rattle.std.proofs.lemmas.Bool.{cond-true, cond-false, eq-eqb, ne_eqb}
 use Rattle.semantics.specs.Eval.{Values}
 use Rattle.compiler.specs.Machine.{Machine, boot}

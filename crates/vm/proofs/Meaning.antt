@@ -1,13 +1,13 @@
 -- Code that is right for a program is that program on the bounded machine.
-use Rattle.std.proofs.Common.{◌≡◌, ℕ, ◌≤◌, List, length, sym, ap, ◌∙◌, arith}
+use Rattle.std.proofs.Common.{◌≡◌, ℕ, ◌≤◌, List, length, ap, ◌∙◌, arith}
 use mathlib.Core.Path.{fun_ext}
 use Rattle.std.proofs.lemmas.Bool.{cond-true, eq-eqb}
 use Rattle.base.specs.Stores.{cells}
 use Rattle.semantics.specs.Eval.{Values, Program}
-use Rattle.compiler.specs.Machine.{Machine, steps, boot}
+use Rattle.compiler.specs.Machine.{steps, boot}
 use Rattle.compiler.specs.Code.{code_in}
 use Rattle.compiler.specs.Right.{Finished as Arrived, Compiled}
-use Rattle.vm.specs.Outcomes.{values_of, last, program_of, outcome_of, Ends, RunsRight, CodeMeans, NeverTrapped}
+use Rattle.vm.specs.Outcomes.{values_of, last, program_of, outcome_of, RunsRight, CodeMeans, NeverTrapped}
 use Rattle.vm.specs.declared.Outcome.{Outcome}
 use Rattle.vm.specs.declared.Outcome.TheVariants.{Finished, Trapped}
 use Rattle.vm.proofs.Plain.{Met, same_steps, ends_before}

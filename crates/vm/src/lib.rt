@@ -1,4 +1,6 @@
 //! The machine that runs compiled code.
+#![tactic(auto)]
+
 ghost use Rattle.std.specs.Prelude.{◌≡◌, length};
 ghost use Rattle.base.specs.Stores.{cells};
 ghost use Rattle.vm.specs.Outcomes.{values_of, program_of, outcome_of, ended, RunsRight, CodeMeans, NeverTrapped};

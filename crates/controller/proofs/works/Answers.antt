@@ -7,22 +7,22 @@ use Rattle.controller.proofs.States.{device_same}
 use Rattle.controller.proofs.Factory.{new_done}
 use Rattle.controller.proofs.works.Goals as goal
 
-pub returns-in-err-format : goal.returns-in-err-format
-returns-in-err-format c =
-    let fits = c.in-ok-check-start.ensures.1 in
-    absurd (not_both _ _ (shape_taken c.args.kept c.args.memory.now (length c.first-values-values.result) fits.low fits.memory_long (omega (arith, fits.low))) c.in-err-format.ensures.0)
+pub returns-in_err-format : goal.returns-in_err-format
+returns-in_err-format c =
+    let fits = c.in_ok-check_start.ensures.1 in
+    absurd (not_both _ _ (shape_taken c.args.kept c.args.memory.now (length c.first_values-values.result) fits.low fits.memory_long (omega (arith, fits.low))) c.in_err-format.ensures.0)
 
 pub returns : goal.returns
 returns c =
     let m = c.args.memory.now in
     let dev = c.format.new.device in
-    let fits = c.in-ok-check-start.ensures.1 in
+    let fits = c.in_ok-check_start.ensures.1 in
     let size : length dev ≡ length m - 194 = omega (arith, slice_length m) in (
-      c.in-ok-check-start.ensures.0,
+      c.in_ok-check_start.ensures.0,
       (
         refl,
-        new_done c.args.kept c.args.firsts.now c.power-off.new.memory (λ k h. c.power-off.ensures.inside k (omega arith) h)
-            (device_same _ _ (λ k h. c.power-off.ensures.above k h) ∙ part_device m dev (omega (arith, fits.memory_long)) size ∙ c.in-ok-format.ensures.1.cells_are
-            ∙ ap (new-device c.args.kept) c.first-values-values.ensures),
+        new_done c.args.kept c.args.firsts.now c.power_off.new.memory (λ k h. c.power_off.ensures.inside k (omega arith) h)
+            (device_same _ _ (λ k h. c.power_off.ensures.above k h) ∙ part_device m dev (omega (arith, fits.memory_long)) size ∙ c.in_ok-format.ensures.1.cells_are
+            ∙ ap (new-device c.args.kept) c.first_values-values.ensures),
       ),
     )

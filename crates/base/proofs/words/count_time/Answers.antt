@@ -1,4 +1,4 @@
-use Rattle.std.proofs.Common.{◌≡◌, ◌+◌, ◌<◌, min, cond, ◌&&◌, leb, length, get_or, set, ap, ◌∙◌, arith, length-set, rules}
+use Rattle.std.proofs.Common.{◌≡◌, ◌+◌, ◌<◌, min, cond, ◌&&◌, leb, length, get_or, set, ap, ◌∙◌, length-set, rules}
 use mir.Val.{bool_byte}
 use Rattle.base.specs.Words.{bit}
 use Rattle.base.specs.Stores.{update, cells}

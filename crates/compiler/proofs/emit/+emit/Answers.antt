@@ -1,4 +1,4 @@
-use Rattle.std.proofs.Common.{refl, rules}
+use Rattle.std.proofs.Common.{rules}
 use Rattle.compiler.proofs.TreeCode.{emit_assign, emit_seq, emit_branch, emit_repeat, emit_delay_lem, emit_other}
 use Rattle.compiler.proofs.emit.+emit.Goals as goal
 

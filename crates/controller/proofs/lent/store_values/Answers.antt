@@ -5,5 +5,5 @@ use Rattle.controller.proofs.lent.store_values.Goals as goal
 
 pub returns : goal.returns
 returns c =
-    front_written 64 (cells c.args.values.now) c.args.memory.now c.copy-from-slice.new.self (omega (arith, ap length c.copy-from-slice.ensures.after)) (omega arith)
-    (λ k h. ap (λ xs. get_or xs k 0) c.copy-from-slice.ensures.after)
+    front_written 64 (cells c.args.values.now) c.args.memory.now c.copy_from_slice.new.self (omega (arith, ap length c.copy_from_slice.ensures.after)) (omega arith)
+    (λ k h. ap (λ xs. get_or xs k 0) c.copy_from_slice.ensures.after)

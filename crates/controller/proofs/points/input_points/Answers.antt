@@ -7,7 +7,7 @@ pub loop-i-init : goal.loop-i-init
 loop-i-init c = filled_none _ _ refl
 
 pub loop-i-preserved : goal.loop-i-preserved
-loop-i-preserved c = filled_more _ _ _ _ (omega arith) c.input-point.ensures c.loop-i.invariant
+loop-i-preserved c = filled_more _ _ _ _ (omega arith) c.input_point.ensures c.loop-i.invariant
 
 pub returns : goal.returns
 returns c =

@@ -7,5 +7,5 @@ use Rattle.controller.proofs.run.run_program.Goals as goal
 
 pub returns : goal.returns
 returns c =
-    let ran = run_given (flags c.args.inputs.now) (cells c.args.outside.now) c.args.memory.now c.args.code.now c.input-points-values.result c.args.gone (omega arith) c.input-points-values.ensures in
+    let ran = run_given (flags c.args.inputs.now) (cells c.args.outside.now) c.args.memory.now c.args.code.now c.input_points-values.result c.args.gone (omega arith) c.input_points-values.ensures in
     record { values = c.run.ensures.vars ∙ ap (λ r. r.store) ran; len = omega (arith, c.run.ensures.len); lamp = ap truthy (c.run.ensures.fault ∙ ap (λ r. r.fault) ran) }

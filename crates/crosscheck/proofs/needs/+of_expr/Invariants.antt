@@ -1,5 +1,5 @@
 use Rattle.crosscheck.proofs.tree.Expr.TheLaws.{the_size}
 use Rattle.crosscheck.proofs.needs.+of_expr.Given as goal
 
-abbrev pub decreases-of-expr : goal.decreases-of-expr
-decreases-of-expr l = the_size l.expr.now
+abbrev pub decreases-of_expr : goal.decreases-of_expr
+decreases-of_expr l = the_size l.expr.now

@@ -1,5 +1,5 @@
 use Rattle.std.proofs.Common.{◌≡◌, ◌+◌, ◌-◌, sym, arith, length-set}
-use Rattle.lexer.proofs.Passes.{Writing, writing_begun, written_blank, not_stuck, room_left, written_token, all_written}
+use Rattle.lexer.proofs.Passes.{writing_begun, written_blank, not_stuck, room_left, written_token, all_written}
 use Rattle.lexer.proofs.cut.write.Goals as goal
 
 pub loop-i-init : goal.loop-i-init

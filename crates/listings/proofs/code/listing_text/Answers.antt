@@ -9,11 +9,11 @@ loop-place-init c = ap (λ l. l ++ code_text 0 (code_in c.args.code.now)) (sym c
 
 pub loop-place-preserved : goal.loop-place-preserved
 loop-place-preserved c =
-    line_more _ _ _ _ c.args.code.now c.loop-place.place-counter (listed c.instruction-of-instruction.result) (omega arith) c.instruction-of-instruction.ensures c.loop-place.invariant
-    (c.as-str.ensures.value ∙ c.in-ok-line.ensures.ok) c.in-ok-push-str.ensures.bytes
+    line_more _ _ _ _ c.args.code.now c.loop-place.place-counter (listed c.instruction_of-instruction.result) (omega arith) c.instruction_of-instruction.ensures c.loop-place.invariant
+    (c.as_str.ensures.value ∙ c.in_ok-line.ensures.ok) c.in_ok-push_str.ensures.bytes
 
 pub returns : goal.returns
 returns c =
-    c.in-ok-push-str-2.ensures.bytes
-    ∙ ap (λ l. l ++ c.as-str-2.result.now) (sym (lines_all _ _ c.args.code.now c.loop-place.place-counter (omega arith) c.loop-place.invariant))
-    ∙ ap (λ l. code_text 0 (code_in c.args.code.now) ++ l) (c.as-str-2.ensures.value ∙ c.in-ok-last.ensures.ok)
+    c.in_ok-push_str-2.ensures.bytes
+    ∙ ap (λ l. l ++ c.as_str-2.result.now) (sym (lines_all _ _ c.args.code.now c.loop-place.place-counter (omega arith) c.loop-place.invariant))
+    ∙ ap (λ l. code_text 0 (code_in c.args.code.now) ++ l) (c.as_str-2.ensures.value ∙ c.in_ok-last.ensures.ok)

@@ -10,7 +10,7 @@ loop-i-init c = (omega arith, omega arith, refl, refl)
 
 pub loop-i-preserved : goal.loop-i-preserved
 loop-i-preserved c =
-    let xs = c.as-bytes-bytes.result.now in
+    let xs = c.as_bytes-bytes.result.now in
     let i = c.loop-i.i in
     let inside : i < length xs = omega arith in
     elim c.if-bytes-i-eq10.branch [
@@ -29,10 +29,10 @@ loop-i-preserved c =
     ]
 
 -- the bytes that the loop has seen
-seen : (c : After-loop-i) → take c.loop-i.i c.as-bytes-bytes.result.now ≡ take c.args.place c.args.text.now
+seen : (c : After-loop-i) → take c.loop-i.i c.as_bytes-bytes.result.now ≡ take c.args.place c.args.text.now
 seen c =
-    let all : c.loop-i.i ≡ min c.args.place (length c.as-bytes-bytes.result.now) = omega arith in
-    ap (λ n. take n c.as-bytes-bytes.result.now) all ∙ take_min c.args.place c.as-bytes-bytes.result.now ∙ ap (take c.args.place) c.as-bytes-bytes.ensures.value
+    let all : c.loop-i.i ≡ min c.args.place (length c.as_bytes-bytes.result.now) = omega arith in
+    ap (λ n. take n c.as_bytes-bytes.result.now) all ∙ take_min c.args.place c.as_bytes-bytes.result.now ∙ ap (take c.args.place) c.as_bytes-bytes.ensures.value
 
 pub returns : goal.returns
 returns c = record {

@@ -9,5 +9,5 @@ returns-in-0 c = sym (ap limit_text c.in-0.is)
 pub returns-in-1 : goal.returns-in-1
 returns-in-1 c = sym (ap limit_text c.in-1.is)
 
-pub returns-in-default : goal.returns-in-default
-returns-in-default c = sym (deep_text c.args.limit (λ e. omega arith) (λ e. omega arith))
+pub returns-in_default : goal.returns-in_default
+returns-in_default c = sym (deep_text c.args.limit (λ e. omega arith) (λ e. omega arith))

@@ -8,12 +8,12 @@ use Rattle.project.proofs.play.play.Goals as goal
 
 pub returns-in-Ok : goal.returns-in-Ok
 returns-in-Ok c =
-    let l = c.in-ok-loaded.loaded in
-    let told : ToldText l.kept l.inputs l.firsts (vec_items l.code) (vec_items c.in-ok-events.events) (string_bytes c.in-Ok.text) =
-    subst (λ (lines : List Event). ToldText l.kept l.inputs l.firsts (vec_items l.code) lines (string_bytes c.in-Ok.text)) c.as-slice.ensures.value c.in-Ok.ensures.1 in
-    played_so c.args.project.now c.args.script.now l (vec_items c.in-ok-events.events) c.in-Ok.text c.in-ok-loaded.ensures c.in-ok-events.ensures told
+    let l = c.in_ok-loaded.loaded in
+    let told : ToldText l.kept l.inputs l.firsts (vec_items l.code) (vec_items c.in_ok-events.events) (string_bytes c.in-Ok.text) =
+    subst (λ (lines : List Event). ToldText l.kept l.inputs l.firsts (vec_items l.code) lines (string_bytes c.in-Ok.text)) c.as_slice.ensures.value c.in-Ok.ensures.1 in
+    played_so c.args.project.now c.args.script.now l (vec_items c.in_ok-events.events) c.in-Ok.text c.in_ok-loaded.ensures c.in_ok-events.ensures told
 
 pub returns : goal.returns
 returns c =
     subst (λ (f : Failure). NotPlayed c.args.project.now c.args.script.now f) (sym c.failure_of.ensures)
-    (unplayed_so c.args.project.now c.args.script.now c.in-ok-loaded.loaded c.in-Err.error [] [] c.in-ok-loaded.ensures c.in-Err.ensures)
+    (unplayed_so c.args.project.now c.args.script.now c.in_ok-loaded.loaded c.in-Err.error [] [] c.in_ok-loaded.ensures c.in-Err.ensures)

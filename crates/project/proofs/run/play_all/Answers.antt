@@ -7,7 +7,7 @@ use Rattle.reports.specs.Reports.{said}
 use Rattle.project.proofs.Whys.{start_why}
 use Rattle.project.proofs.Playing.{done_of, played_none, played_more, played_all}
 use Rattle.project.proofs.run.play_all.Goals as goal
-use Rattle.project.proofs.run.play_all.Goals.{in-Some+in-ok-push, in-default}
+use Rattle.project.proofs.run.play_all.Goals.{in-Some+in_ok-push, in_default}
 
 pub loop-event-init : goal.loop-event-init
 loop-event-init c =
@@ -26,13 +26,13 @@ loop-event-preserved c =
     let l = c.args.project.now in
     let out = vec_items c.loop-event.reports in
     played_more l.kept l.inputs l.firsts (vec_items l.code) c.args.events.now c.loop-event.event-index
-    c.loop-event.memory c.loop-event.panel.outside c.loop-event.panel.shown c.play-event.new.memory c.play-event.new.panel.outside c.play-event.new.panel.shown
-    c.event-item.result (map said out) (map said (option_to_list c.in-ok-report.field-0)) (map said (vec_items c.match-branch-2.reports))
-    inside c.requires.1.1 c.event-item.is c.in-ok-report.ensures
+    c.loop-event.memory c.loop-event.panel.outside c.loop-event.panel.shown c.play_event.new.memory c.play_event.new.panel.outside c.play_event.new.panel.shown
+    c.event-item.result (map said out) (map said (option_to_list c.in_ok-report.field-0)) (map said (vec_items c.match-branch-2.reports))
+    inside c.requires.1.1 c.event-item.is c.in_ok-report.ensures
     (elim c.match-branch-2.branch [
-      | in-Some+in-ok-push w ↦
-          ap (λ v. map said (vec_items v)) w.reports-is ∙ ap (map said) w.in-ok-push.ensures.items ∙ map_push said out _ ∙ ap (λ o. map said out ++ map said (option_to_list o)) (sym w.in-Some.is)
-      | in-default w ↦ ap (λ v. map said (vec_items v)) w.reports-is ∙ sym (append-nil (map said out)) ∙ ap (λ o. map said out ++ map said (option_to_list o)) (sym w.in-default.is)
+      | in-Some+in_ok-push w ↦
+          ap (λ v. map said (vec_items v)) w.reports-is ∙ ap (map said) w.in_ok-push.ensures.items ∙ map_push said out _ ∙ ap (λ o. map said out ++ map said (option_to_list o)) (sym w.in-Some.is)
+      | in_default w ↦ ap (λ v. map said (vec_items v)) w.reports-is ∙ sym (append-nil (map said out)) ∙ ap (λ o. map said out ++ map said (option_to_list o)) (sym w.in_default.is)
     ])
     c.loop-event.invariant
 

@@ -7,7 +7,7 @@ use Rattle.project.proofs.run.play_events.Goals as goal
 pub returns-in-Ok : goal.returns-in-Ok
 returns-in-Ok c =
     let l = c.args.project.now in (
-      c.in-ok-reports.ensures.0,
-      told_text l.kept l.inputs l.firsts (vec_items l.code) c.args.events.now (vec_items c.in-ok-reports.reports) (string_bytes c.in-Ok.text)
-          (c.in-Ok.ensures ∙ ap (flat_map line_of) c.as-slice.ensures.value) c.in-ok-reports.ensures.1,
+      c.in_ok-reports.ensures.0,
+      told_text l.kept l.inputs l.firsts (vec_items l.code) c.args.events.now (vec_items c.in_ok-reports.reports) (string_bytes c.in-Ok.text)
+          (c.in-Ok.ensures ∙ ap (flat_map line_of) c.as_slice.ensures.value) c.in_ok-reports.ensures.1,
     )

@@ -2,7 +2,7 @@ use Rattle.std.proofs.Common.{◌≡◌, ◌<◌, vec_items, ap, ◌∙◌, arit
 use Rattle.base.specs.Stores.{cells}
 use Rattle.project.proofs.Collected.{changed_more, changed_same, changed_all}
 use Rattle.project.proofs.settings.changed_settings.Goals as goal
-use Rattle.project.proofs.settings.changed_settings.Goals.{then-shown-i+in-ok-push, else-shown-i}
+use Rattle.project.proofs.settings.changed_settings.Goals.{then-shown-i+in_ok-push, else-shown-i}
 
 pub loop-i-preserved : goal.loop-i-preserved
 loop-i-preserved c =
@@ -12,7 +12,7 @@ loop-i-preserved c =
     let h : i < 64 = c.loop-i-test.true in
     let done = vec_items c.loop-i.all in
     elim c.if-shown-i.branch [
-      | then-shown-i+in-ok-push w ↦ changed_more _ f g i 64 done c.loop-i.invariant _ h w.if-shown-i.true (ap vec_items w.all-is ∙ w.in-ok-push.ensures.items)
+      | then-shown-i+in_ok-push w ↦ changed_more _ f g i 64 done c.loop-i.invariant _ h w.if-shown-i.true (ap vec_items w.all-is ∙ w.in_ok-push.ensures.items)
       | else-shown-i w ↦ changed_same _ f g i 64 done c.loop-i.invariant _ h w.if-shown-i.false (ap vec_items w.all-is)
     ]
 

@@ -1,4 +1,4 @@
-use Rattle.std.proofs.Common.{◌≡◌, map, Ok, vec_items, sym, ap, ◌∙◌}
+use Rattle.std.proofs.Common.{map, Ok, vec_items, sym, ap, ◌∙◌}
 use Rattle.std.specs.Option.{option_to_list}
 use Rattle.std.proofs.lemmas.List.{map_push}
 use Rattle.scripts.specs.Script.{request}

@@ -1,4 +1,4 @@
-use Rattle.std.proofs.Common.{◌≡◌, length, arith, rules}
+use Rattle.std.proofs.Common.{rules}
 use Rattle.std.proofs.lemmas.Bool.{eq-eqb, ne_eqb}
 use Rattle.semantics.proofs.Evaluating.{run_assign, run_seq, run_then, run_else, run_delay, run_other, rounds_none, rounds_more, rounds_all}
 use Rattle.semantics.proofs.interpreter.+run.Goals as goal

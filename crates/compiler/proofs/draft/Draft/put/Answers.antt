@@ -1,4 +1,4 @@
-use Rattle.std.proofs.Common.{◌+◌, ap, arith, rules}
+use Rattle.std.proofs.Common.{◌+◌, ap, rules}
 use Rattle.compiler.proofs.Emitting.{puts_one}
 use Rattle.compiler.proofs.draft.Draft.put.Goals as goal
 

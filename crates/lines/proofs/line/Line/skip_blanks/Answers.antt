@@ -1,4 +1,4 @@
-use Rattle.std.proofs.Common.{◌≡◌, ℕ, ◌+◌, ◌<◌, true, ◌∷◌, length, sym, refl, ap, ◌∙◌, arith, rules}
+use Rattle.std.proofs.Common.{◌≡◌, ℕ, true, ◌∷◌, length, sym, ap, ◌∙◌, arith, rules}
 use Rattle.lines.specs.Words.{blank}
 use Rattle.lines.specs.Reading.{left}
 use Rattle.lines.proofs.Cuts.{blank_is, blank_ascii, such_byte, first_blank, no_blank_first}

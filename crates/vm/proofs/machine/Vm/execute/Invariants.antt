@@ -1,4 +1,4 @@
-use Rattle.std.proofs.Common.{◌≡◌, ◌≤◌, length}
+use Rattle.std.proofs.Common.{◌≡◌, length}
 use Rattle.vm.specs.Bounds.{bounded_steps}
 use Rattle.compiler.specs.Code.{code_in}
 use Rattle.vm.specs.State.{machine_of}
