@@ -58,8 +58,26 @@ def spelled(name):
     if name in SPECIAL:
         return SPECIAL[name]
     if name[0].isupper():
-        return "".join(part[:1].upper() + part[1:] for part in name.split("-"))
+        return "".join(part[:1].upper() + part[1:] for part in re.split("[-_]", name))
     return name.replace("-", "_")
+
+
+# A name that a line `use` gives an import in one file.
+ALIAS = re.compile(r"(?<= as )(" + NAME + r")(?=[,}])")
+
+
+def aliases(text, path):
+    """The names with a dash that the file gives its imports, each with its spelling, where that is free."""
+    found = {}
+    for line in re.findall(r"^(?:pub |ghost )?use .*$", text, re.M):
+        for name in ALIAS.findall(line):
+            if "-" in name:
+                found[name] = spelled(name)
+    taken = set(re.findall(NAME, text))
+    for name in [name for name in found if found[name] in taken]:
+        print(f"respell: {path}: {name} stays, {found[name]} is taken")
+        del found[name]
+    return found
 
 
 def turned(text, names, own, path):
@@ -97,12 +115,13 @@ def turned(text, names, own, path):
 def main(argv):
     root = argv[0] if argv else "."
     own = declared(root)
-    names = {name: spelled(name) for name in own if "-" in name}
+    names = {name: spelled(name) for name in own if "-" in name or (name[0].isupper() and "_" in name)}
     changed = 0
     for path in files(root):
         with open(path, encoding="utf-8", newline="") as f:
             old = f.read()
-        new = turned(old, names, own, path)
+        here = aliases(old, path) if path.endswith((".antt", ".rt")) else {}
+        new = turned(old, names | here, own, path)
         if new != old:
             with open(path, "w", encoding="utf-8", newline="") as f:
                 f.write(new)

@@ -5,7 +5,7 @@ use Rattle.std.proofs.lemmas.Bool.{eq-eqb}
 use Rattle.base.specs.Stores.{Store, update, region}
 use Rattle.base.proofs.Regions.{region_set, region_set_other}
 use Rattle.controller.specs.World.{Project, forced_at, freed_at, force, free}
-use Rattle.controller.specs.History.{State, react}
+use Rattle.controller.specs.History.{react}
 use Rattle.controller.specs.Memory.{device_in, live_in, state_in, marks}
 use Rattle.controller.proofs.Reacts.{react_force, react_free}
 use Rattle.controller.proofs.States.{state_is, device_same}

@@ -1,7 +1,7 @@
 -- What a memory's cells say: values, on and lamp, what the program sees and what goes out, point by point.
-use Rattle.std.proofs.Common.{◌≡◌, ℕ, ◌+◌, ◌<◌, ◌≤◌, Bool, cond, eqb, List, length, get_or, sym, refl, ap, ◌∙◌, zero-add}
+use Rattle.std.proofs.Common.{◌≡◌, ℕ, ◌+◌, ◌<◌, ◌≤◌, cond, eqb, List, length, get_or, refl, ap, ◌∙◌, zero-add}
 use Rattle.std.proofs.lemmas.List.{get_or_past}
-use Rattle.base.specs.Stores.{Store, cells, region}
+use Rattle.base.specs.Stores.{cells, region}
 use Rattle.base.proofs.Regions.{region_at, region_past}
 use Rattle.controller.specs.World.{input_image, output_image}
 use Rattle.controller.specs.Memory.{live_in, marks, flags, input_cell, output_cell}

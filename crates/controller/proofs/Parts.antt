@@ -1,5 +1,5 @@
 -- The memory after its device was written as a slice of its own.
-use Rattle.std.proofs.Common.{◌≡◌, ℕ, ◌+◌, ◌-◌, ◌<◌, ◌≤◌, List, [], ◌++◌, length, get_or, take, drop, replicate, sym, refl, ap, ◌∙◌, ⊎_elim, append-nil, arith, length-append, length-drop, take-append-drop, get_or-drop, get_or-take, rules}
+use Rattle.std.proofs.Common.{◌≡◌, ℕ, ◌+◌, ◌-◌, ◌<◌, ◌≤◌, List, ◌++◌, length, get_or, take, drop, replicate, sym, ap, ◌∙◌, ⊎_elim, append-nil, arith, length-append, length-drop, take-append-drop, get_or-drop, get_or-take, rules}
 use mathlib.Core.Path.{fun_ext}
 use lib.ListN.{length-replicate, get_or-replicate}
 use borrow.Rule.Slice.PartMut.{put_mid}

@@ -1,16 +1,12 @@
 -- What an event does, and what the story tells of it, with power and without.
-use Rattle.std.proofs.Common.{◌≡◌, ℕ, Bool, true, false, not, ◌||◌, refl, ap, ⊎_elim, arith}
+use Rattle.std.proofs.Common.{◌≡◌, ℕ, true, false, refl, ap, ⊎_elim, arith}
 use Rattle.std.proofs.lemmas.Bool.{cond-true, cond-false, cases_Bool}
 use Rattle.retain.specs.Device.{recovered, apply_writes, cut_writes, write_count, came_out}
 use Rattle.retain.specs.Story.{cut_leaves}
-use Rattle.controller.specs.World.{Project, Event, start, scan, cut, force, free, needs_power, takes_place, saves, executed, off, started, scanned, forced_at, freed_at}
+use Rattle.controller.specs.World.{Project, Event, start, scan, cut, force, free, needs_power, saves, executed, off, started, scanned, forced_at, freed_at}
 use Rattle.controller.specs.Story.{Decision, Tale, tell}
 use Rattle.controller.specs.History.{State, save, react}
 use Rattle.controller.specs.Decided.{decide}
-
--- what needs power does not take place without it
-idle : (e : Event) (on : Bool) → needs_power e ≡ true → on ≡ false → takes_place e on ≡ false
-idle e on n h = λ i. not (n i) || h i
 
 module _ (p : Project) (s : State) where
   pub react_start : react p start s ≡ record { live = started p (recovered p.kept s.device); device = s.device }
@@ -36,7 +32,11 @@ module _ (p : Project) (s : State) where
   -- without power
   pub react_off : (e : Event) → needs_power e ≡ true → s.live.on ≡ false → react p e s ≡ s
   unfolding react
-  react_off e n h = cond-false _ _ _ (idle e s.live.on n h)
+  react_off start n h = let z : ◌≡◌ {A = ℕ} 0 1 = cc in absurd (omega arith)
+  react_off (scan f dt) n h = cond-false _ _ _ h
+  react_off (cut f dt k junk) n h = cond-false _ _ _ h
+  react_off (force i v) n h = cond-false _ _ _ h
+  react_off (free i) n h = cond-false _ _ _ h
 
   -- an event that saves nothing leaves the device
   pub react_device : (e : Event) → saves e ≡ false → (react p e s).device ≡ s.device
@@ -75,4 +75,8 @@ module _ (p : Project) (d : Decision) (t : Tale) where
   -- without power
   pub tell_off : (e : Event) → needs_power e ≡ true → t.live.on ≡ false → tell p e d t ≡ t
   unfolding tell
-  tell_off e n h = cond-false _ _ _ (idle e t.live.on n h)
+  tell_off start n h = let z : ◌≡◌ {A = ℕ} 0 1 = cc in absurd (omega arith)
+  tell_off (scan f dt) n h = cond-false _ _ _ h
+  tell_off (cut f dt k junk) n h = cond-false _ _ _ h
+  tell_off (force i v) n h = cond-false _ _ _ h
+  tell_off (free i) n h = cond-false _ _ _ h

@@ -1,17 +1,16 @@
 -- The rules of kept values, and what a start finds.
-use Rattle.std.proofs.Common.{◌≡◌, ℕ, suc, ◌<◌, ◌≤◌, true, false, ltb, List, [], ◌∷◌, sym, refl, ap, ◌∙◌, inl, inr}
+use Rattle.std.proofs.Common.{◌≡◌, ℕ, ◌<◌, ◌≤◌, true, List, [], ◌∷◌, refl, ap, ◌∙◌, inl, inr}
 use Rattle.std.proofs.lemmas.Bool.{cond-true, cond-false, lt-ltb, le-ltb, cases_Bool}
-use Rattle.base.specs.Stores.{Store}
-use Rattle.retain.specs.Device.{recovered, apply_writes, cut_writes, came_out}
+use Rattle.retain.specs.Device.{recovered, came_out}
 use Rattle.retain.specs.Story.{cut_leaves}
 use Rattle.retain.specs.History.{Same}
 use Rattle.retain.proofs.Holds.{commit_keeps, cut_keeps}
 use Rattle.retain.proofs.StoryLaws.{before_leaves, past_leaves, last_leaves}
 use Rattle.controller.specs.World.{Project, Event, start, scan, cut, started}
 use Rattle.controller.specs.Story.{as_made, tale}
-use Rattle.controller.specs.History.{save, react, after}
+use Rattle.controller.specs.History.{react, after}
 use Rattle.controller.specs.Decided.{decided}
-use Rattle.controller.specs.Promises.{found, put, writes_of, Rules, Ruled, FoundAtStart, StartFinds}
+use Rattle.controller.specs.Promises.{found, put, writes_of, Ruled, FoundAtStart, StartFinds}
 use Rattle.controller.proofs.Reacts.{react_start, react_scan, react_cut, react_off, react_device}
 use Rattle.controller.proofs.Survival.{agrees, survives}
 

@@ -1,5 +1,5 @@
 -- A run on the lent memory is a run on what the program is given.
-use Rattle.std.proofs.Common.{◌≡◌, ℕ, Bool, true, false, eqb, List, length, get_or, refl, ap, ◌∙◌}
+use Rattle.std.proofs.Common.{◌≡◌, ℕ, Bool, true, false, eqb, List, length, get_or, refl}
 use mir.Val.{bool_byte}
 use Rattle.base.specs.Stores.{Store, cells}
 use Rattle.base.specs.Words.{bit}

@@ -1,5 +1,5 @@
 -- What a memory stands for after a scan, and after one that was cut.
-use Rattle.std.proofs.Common.{◌≡◌, ℕ, ◌+◌, ◌-◌, ◌*◌, ◌<◌, ◌≤◌, Bool, true, false, eqb, List, ◌∷◌, length, get_or, take, drop, set, sym, refl, ap, ◌∙◌, subst, zero-add, arith, get_or-set_other, get_or-set_same}
+use Rattle.std.proofs.Common.{◌≡◌, ℕ, ◌+◌, ◌-◌, ◌*◌, ◌<◌, ◌≤◌, Bool, true, false, eqb, List, length, get_or, take, drop, set, sym, refl, ap, ◌∙◌, subst, zero-add, arith, get_or-set_other, get_or-set_same}
 use borrow.Rule.Slice.PartMut.{put_mid}
 use Rattle.std.proofs.lemmas.List.{get_or_past}
 use Rattle.std.proofs.lemmas.Bool.{eq-eqb}
@@ -10,9 +10,9 @@ use Rattle.semantics.specs.Eval.{Program}
 use Rattle.retain.specs.Device.{commit_writes, apply_writes, cut_writes, effective_writes}
 use Rattle.vm.specs.Outcomes.{program_of}
 use Rattle.vm.proofs.Meaning.{code_means_lem, never_trapped_lem}
-use Rattle.controller.specs.World.{Project, Live, Event, scan, cut, executed, output_image, outputs, scanned, off}
-use Rattle.controller.specs.History.{State, save, react, after}
-use Rattle.controller.specs.Memory.{live_in, device_in, state_in, marks, writes_in, StandsFor}
+use Rattle.controller.specs.World.{Project, Live, scan, cut, executed, output_image, outputs, scanned}
+use Rattle.controller.specs.History.{save, react}
+use Rattle.controller.specs.Memory.{live_in, device_in, state_in, marks, writes_in}
 use Rattle.controller.specs.Entries.{EachMeaning, Scanned, CutOff}
 use Rattle.controller.proofs.Reacts.{react_scan, react_cut}
 use Rattle.controller.proofs.States.{state_is, device_same, follows}

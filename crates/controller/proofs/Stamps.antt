@@ -1,14 +1,14 @@
 -- A stamp rises by at most one with an event.
-use Rattle.std.proofs.Common.{◌≡◌, ℕ, zero, suc, ◌+◌, ◌^◌, ◌<◌, ◌≤◌, Bool, true, false, cond, not, eqb, ◌⊎◌, List, [], ◌∷◌, ◌++◌, length, None, sym, refl, ap, ◌∙◌, subst, inl, inr, ⊎_elim, arith}
+use Rattle.std.proofs.Common.{◌≡◌, ℕ, zero, suc, ◌+◌, ◌^◌, ◌<◌, ◌≤◌, Bool, true, false, not, eqb, ◌⊎◌, List, [], ◌∷◌, ◌++◌, length, None, sym, refl, ap, ◌∙◌, subst, inl, inr, ⊎_elim, arith}
 use Rattle.std.proofs.lemmas.Bool.{cond_both, and_parts, eqb-true, eqb-false, lt-ltb, cases_Bool}
 use Rattle.std.proofs.lemmas.Bool.Decides.{nat_tests}
 use Rattle.base.specs.Stores.{Store, update}
 use Rattle.base.proofs.StoreLaws.{update_same, update_other}
 use Rattle.base.proofs.Checks.{passes}
 use Rattle.retain.specs.declared.Write.{Write}
-use Rattle.retain.specs.Device.{slot_base, valid, current, stamp, value_writes, slot_writes, commit_writes, apply_writes, cut_writes, factory as new-device, Sound}
+use Rattle.retain.specs.Device.{slot_base, current, stamp, value_writes, slot_writes, commit_writes, apply_writes, cut_writes, factory as new_device, Sound}
 use Rattle.retain.specs.Entry.{stamp_refusal}
-use Rattle.retain.proofs.Writes.{Within, Outside, values_within, apply_frame, cut_frame}
+use Rattle.retain.proofs.Writes.{Within, values_within, apply_frame, cut_frame}
 use Rattle.retain.proofs.Holds.{apart, commit_keeps, cut_keeps}
 use Rattle.controller.specs.World.{Project, Event, start, scan, cut, force, free, executed}
 use Rattle.controller.specs.History.{State, react, factory, after}
@@ -112,8 +112,8 @@ module _ (n : ℕ) (d : Store) (v : Store) (h : Sound n d) where
       (ap (λ ws. cut_writes d ws k junk (slot_base n a)) writes_are ∙ cut_frame to (to + 2 + n) (slot_base n a) (head ∷ tail) d k junk all_within (apart n a (slot_base n a) (omega arith) (omega arith)))
       (subst (λ ws. Low (cut_writes d ws k junk)) (sym writes_are) (cut_low k junk))
 
-made_low : (n : ℕ) (first : Store) (b : Bool) → new-device n first (slot_base n b) ≤ 1
-unfolding new-device
+made_low : (n : ℕ) (first : Store) (b : Bool) → new_device n first (slot_base n b) ≤ 1
+unfolding new_device
 made_low n first false = omega arith
 made_low n first true = grind (arith, nat_tests)
 
@@ -140,7 +140,7 @@ module _ (p : Project) (s : State) (sound : Sound p.kept s.device) where
 
 pub stamps_last_lem : StampsLast
 unfolding after factory stamp
-stamps_last_lem p [] = made_low p.kept p.initial (current p.kept (new-device p.kept p.initial))
+stamps_last_lem p [] = made_low p.kept p.initial (current p.kept (new_device p.kept p.initial))
 stamps_last_lem p (e ∷ es) =
     let x = stamps_last_lem p es in
     let y = step p (after p es) (agrees p es).sound e in

@@ -1,7 +1,6 @@
 -- A forced point shows its number until it is freed or the power goes.
-use Rattle.std.proofs.Common.{◌≡◌, ℕ, Bool, true, false, cond, not, eqb, List, [], ◌∷◌, ◌++◌, sym, refl, ap, ◌∙◌, subst, arith}
+use Rattle.std.proofs.Common.{◌≡◌, ℕ, Bool, true, false, not, eqb, List, [], ◌∷◌, ◌++◌, sym, refl, ap, ◌∙◌, subst, arith}
 use Rattle.std.proofs.lemmas.Bool.{cond-true, cond-false, eq-eqb}
-use Rattle.base.specs.Stores.{update}
 use Rattle.controller.specs.World.{Project, Live, Event, start, scan, cut, force, free, input_image, output_image, outputs, scanned, forced_at, freed_at}
 use Rattle.controller.specs.History.{State, react, after}
 use Rattle.controller.specs.Promises.{Each, passes_by, Shows, ForceStays}

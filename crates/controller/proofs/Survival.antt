@@ -6,11 +6,11 @@ use Rattle.base.specs.Stores.{Store}
 use Rattle.retain.specs.Device.{recovered, write_count, came_out, Sound}
 use Rattle.retain.specs.Story.{cut_leaves}
 use Rattle.retain.proofs.Holds.{factory_sound, commit_keeps, cut_keeps}
-use Rattle.controller.specs.World.{Project, Event, start, scan, cut, force, free, needs_power, executed, off, started, scanned, forced_at, freed_at}
+use Rattle.controller.specs.World.{Project, Event, start, scan, cut, force, free, needs_power, executed, started, scanned, forced_at, freed_at}
 use Rattle.controller.specs.Story.{Decision, Tale, as_made, tell, tale}
 use Rattle.controller.specs.History.{State, save, react, factory, after}
 use Rattle.controller.specs.Decided.{decide, decided}
-use Rattle.controller.specs.Promises.{AsTold, Survives}
+use Rattle.controller.specs.Promises.{Survives}
 use Rattle.controller.proofs.Reacts.{react_start, react_scan, react_cut, react_force, react_free, react_off, decide_cut, tell_start, tell_scan, tell_cut, tell_force, tell_free, tell_off}
 
 -- a state is as a tale says, and its device is sound

@@ -1,5 +1,5 @@
 -- Words stay words, through every event and whatever is decided of it.
-use Rattle.std.proofs.Common.{◌≡◌, ℕ, suc, ◌<◌, Bool, true, false, cond, eqb, ltb, leb, List, [], ◌∷◌, sym, refl, ap, ◌∙◌, subst, ⊎_elim, arith}
+use Rattle.std.proofs.Common.{◌≡◌, ℕ, suc, ◌<◌, Bool, true, false, cond, eqb, ltb, leb, List, [], ◌∷◌, sym, refl, subst, ⊎_elim, arith}
 use Rattle.std.proofs.lemmas.Bool.{cases_Bool}
 use Rattle.base.specs.Stores.{Store}
 use Rattle.retain.specs.Story.{cut_leaves}
@@ -7,7 +7,7 @@ use Rattle.controller.specs.World.{Project, Live, Event, start, scan, cut, force
 use Rattle.controller.specs.Story.{Decision, Tale, as_made, tell, tale}
 use Rattle.controller.specs.History.{after}
 use Rattle.controller.specs.Decided.{decided}
-use Rattle.controller.specs.Promises.{Each, Words, KeepsWords, BringsWords, AllWords, WordsStay}
+use Rattle.controller.specs.Promises.{Each, Words, KeepsWords, BringsWords, WordsStay}
 use Rattle.controller.proofs.Reacts.{tell_start, tell_scan, tell_cut, tell_force, tell_free, tell_off}
 use Rattle.controller.proofs.Survival.{survives}
 

@@ -5,7 +5,7 @@ use Rattle.base.specs.Words.{bit, truthy}
 use Rattle.semantics.specs.Eval.{Values, Program}
 use Rattle.compiler.specs.Right.{Compiled}
 use Rattle.vm.specs.Outcomes.{program_of, Ends}
-use Rattle.retain.specs.Device.{recovered, apply_writes, cut_writes, effective_writes, factory as new-device}
+use Rattle.retain.specs.Device.{recovered, apply_writes, cut_writes, effective_writes, factory as new_device}
 use Rattle.controller.specs.World.{Project, Event, start, scan, cut, force, free, executed, outputs, scanned}
 use Rattle.controller.specs.Story.{tale}
 use Rattle.controller.specs.History.{react, save, after}
@@ -35,7 +35,7 @@ pub record Blank (memory : List ℕ) : Type 0 where
 -- a new controller: nothing but a device with the first values; it stands for the empty history, whatever its inputs and its program
 pub record New (kept : ℕ) (firsts memory₁ : List ℕ) : Type 0 where
   pub blank : Blank memory₁
-  pub device : device_in memory₁ ≡ new-device kept (cells firsts)
+  pub device : device_in memory₁ ≡ new_device kept (cells firsts)
   pub history : (inputs : List ℕ) (q : Program) → StandsFor (project kept inputs firsts q) memory₁ []
   pub told : (inputs : List ℕ) (q : Program) → AsTold (project kept inputs firsts q) [] (state_in memory₁)
 

@@ -1,5 +1,5 @@
 -- A controller at work: projects, events, and what each event does to all that is lost with the power. It knows no device, no memory layout and no language. Assumes nothing: these are definitions.
-use Rattle.std.specs.Prelude.{ℕ, Bool, true, false, cond, not, ◌||◌, ◌==◌, nat_lt}
+use Rattle.std.specs.Prelude.{ℕ, Bool, true, false, cond, ◌==◌, nat_lt}
 use Rattle.base.specs.Stores.{Store, update}
 use Rattle.base.specs.Words.{bit, truthy}
 use Rattle.semantics.specs.Eval.{Values, Program}
@@ -27,17 +27,13 @@ pub data Event : Type 0 where
   force : (i v : ℕ) → Event
   free : (i : ℕ) → Event
 
--- does an event need power
+-- does an event need power; without it nothing but a start does anything
 abbrev pub needs_power : Event → Bool
 needs_power start = false
 needs_power (scan inputs elapsed) = true
 needs_power (cut inputs elapsed k junk) = true
 needs_power (force i v) = true
 needs_power (free i) = true
-
--- does an event take place: without power nothing but a start does
-abbrev pub takes_place : Event → (on : Bool) → Bool
-takes_place e on = not (needs_power e) || on
 
 -- does an event save the kept values, or begin to
 abbrev pub saves : Event → Bool

@@ -1,4 +1,6 @@
 //! The entries of a controller over lent memory: works, start, scan, cut, force and free.
+#![tactic(auto)]
+
 ghost use Rattle.std.specs.Prelude.{◌≡◌};
 ghost use Rattle.base.specs.Stores.{cells};
 ghost use Rattle.base.specs.Refusals.{Answered};

@@ -1,10 +1,12 @@
 //! Random projects and scripts: the player's answer beside a plain story of what they mean.
+#![tactic(auto)]
+
 mod blanks;
 mod cells;
 mod grammar;
 mod growing;
 mod header;
-mod lines;
+mod line_texts;
 mod meaning;
 mod needs;
 mod program;

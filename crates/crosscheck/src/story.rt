@@ -1,7 +1,7 @@
 //! The story of a controller, told plainly: what each event does to it, and the line that is printed of it. It knows no code and no machine.
 use crate::cells::Cells;
 use crate::header::Settings;
-use crate::lines::{scan_line, start_line};
+use crate::line_texts::{scan_line, start_line};
 use crate::meaning::Values;
 use crate::script::{Event, Input, Scan};
 use crate::tally::{Met, Tally};

@@ -1,5 +1,5 @@
 //! A script followed event by event: the answer has the story's lines and no others.
-use crate::lines::refused_line;
+use crate::line_texts::refused_line;
 use crate::script::{Event, Input};
 use crate::story::{Story, Trees};
 use crate::tally::{Met, Tally};

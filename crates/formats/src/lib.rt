@@ -5,7 +5,7 @@ ghost use Rattle.formats.specs.HeaderText.{ProjectReadsBack};
 ghost use Rattle.formats.specs.ScriptText.{ScriptReadsBack};
 
 pub use headers::header;
-pub use lines::words;
+pub use lines::{line, words};
 pub use scripts::script;
 
 /// A theorem, and no work: every project that is written out in the format is read back as itself.

@@ -13,7 +13,7 @@ use Rattle.syntax.specs.Parser as parser
 use Rattle.syntax.proofs.Sound.{sound}
 use Rattle.semantics.specs.Eval.{eval, faults, iterate, exec}
 use Rattle.semantics.specs.Needs.{expr_need, stmt_need, Fits}
-use Rattle.retain.specs.Device.{stamp, recovered, value_writes, slot_writes, commit_writes, apply_writes, cut_writes, write_count, came_out, factory as new-device}
+use Rattle.retain.specs.Device.{stamp, recovered, value_writes, slot_writes, commit_writes, apply_writes, cut_writes, write_count, came_out, factory as new_device}
 use Rattle.retain.specs.Story.{cut_leaves}
 use Rattle.controller.specs.World.{input_image, executed, output_image, outputs, off, started, scanned, forced_at, freed_at}
 use Rattle.controller.specs.Story.{as_made, tell}
@@ -77,7 +77,7 @@ infixr 20 ◌also◌
 a also b = (a, b)
 
 pub examples_come_out_lem : ExamplesComeOut
-unfolding header script lines words blank number_of name_of take_marks take_pairs digits spelling writable all_blank apart text_of tokens_of well_spaced parse run step begin prefix finish only on_else on_end climb inverts closed at_top whole_program code strength parser.start stmt_need expr_need marked plays zip decisions report act taken line_refusal values_from changed_from tell scanned started executed input_image outputs output_image as_made off react factory after decide exec eval faults iterate inputs_after forced_at freed_at stamp recovered value_writes slot_writes commit_writes apply_writes cut_writes write_count came_out new-device cut_leaves
+unfolding header script lines words blank number_of name_of take_marks take_pairs digits spelling writable all_blank apart text_of tokens_of well_spaced parse run step begin prefix finish only on_else on_end climb inverts closed at_top whole_program code strength parser.start stmt_need expr_need marked plays zip decisions report act taken line_refusal values_from changed_from tell scanned started executed input_image outputs output_image as_made off react factory after decide exec eval faults iterate inputs_after forced_at freed_at stamp recovered value_writes slot_writes commit_writes apply_writes cut_writes write_count came_out new_device cut_leaves
 examples_come_out_lem =
     comes_out motor 0 (0 ∷ 1 ∷ []) 22
     (gap (name 2) ∷ gap (mark Assign) ∷ tight (mark Open) ∷ gap (name 0) ∷ gap (operator Or) ∷ tight (name 2) ∷ gap (mark Close) ∷ gap (operator And) ∷ gap (mark Not) ∷ tight (name 1) ∷ feed (mark Semicolon) ∷ [])

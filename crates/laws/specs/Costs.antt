@@ -13,8 +13,8 @@ use Rattle.compiler.specs.Right.{Finished, Within}
 use Rattle.headers.specs.Header.{Plan}
 use Rattle.listings.specs.ListingText.{needs_text}
 use Rattle.loading.specs.declared.load.Loaded.{Loaded}
-use Rattle.loading.specs.Loading.{Taken, Ready}
-use Rattle.listings.specs.Listing.{Listed}
+use Rattle.loading.specs.Loading.{Taken, ReadyWithinNeeds}
+use Rattle.listings.specs.Listing.{Listed, ListedWithinNeeds}
 
 -- code comes to its end within so many steps, from any values and after any time, with what the program means
 abbrev pub EndsWithin : ℕ → Program → (code : List ℕ) → Type 0
@@ -41,13 +41,13 @@ WithinHeights =
 -- so it is with the code that a listing prints, and with the code that is loaded to be played
 abbrev pub ListedWithin : Type 0
 ListedWithin =
-    (text : List ℕ) (out : String Global) (l : Listed text out) →
-    EndsWithin (stmt_need l.program).cost (meaning l.program) l.code × NeverAbove (stmt_need l.program) l.code
+    (text : List ℕ) (out : String Global) (l : ListedWithinNeeds text out) →
+    EndsWithin (stmt_need l.listed.program).cost (meaning l.listed.program) l.listed.code × NeverAbove (stmt_need l.listed.program) l.listed.code
 
 abbrev pub LoadedWithin : Type 0
 LoadedWithin =
-    (text : List ℕ) (l : Loaded) (r : Ready text l) →
-    EndsWithin (stmt_need r.program).cost (meaning r.program) (vec_items l.code) × NeverAbove (stmt_need r.program) (vec_items l.code)
+    (text : List ℕ) (l : Loaded) (r : ReadyWithinNeeds text l) →
+    EndsWithin (stmt_need r.ready.program).cost (meaning r.ready.program) (vec_items l.code) × NeverAbove (stmt_need r.ready.program) (vec_items l.code)
 
 -- these needs are the numbers which the last line of its listing says
 abbrev pub NeedsArePrinted : Type 0

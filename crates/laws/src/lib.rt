@@ -1,4 +1,6 @@
 //! The laws of the whole: what is promised of every program, project and script, in the words of those who use them. Each function's contract is one law.
+#![tactic(auto)]
+
 ghost use Rattle.laws.specs.Costs.{WithinCost, WithinHeights, ListedWithin, LoadedWithin, NeedsArePrinted};
 ghost use Rattle.laws.specs.Examples.{ExamplesComeOut};
 ghost use Rattle.laws.specs.Histories.{Constants, UnreadUnseen, LampStays};

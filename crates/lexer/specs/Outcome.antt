@@ -67,7 +67,10 @@ pub record Begins (text : List ℕ) (i p : ℕ) : Type 0 where
   pub cuts : Cuts front tokens rest
   pub count : length tokens ≡ i
 
--- the place of a token in a text: it is in the text; where the text has this token it begins there, and where it has fewer it is the text's end
+-- the place of a token in a text: it is in the text, and where the text has this token it begins there
 abbrev pub PlaceOfToken : (text : List ℕ) → (i p : ℕ) → Type 0
-PlaceOfToken text i p =
-    (p ≤ length text) × ((n : ℕ) → Whole text n → i < n → Begins text i p) × ((n : ℕ) → Whole text n → n ≤ i → p ≡ length text)
+PlaceOfToken text i p = (p ≤ length text) × ((n : ℕ) → Whole text n → i < n → Begins text i p)
+
+-- where the text has fewer tokens, the place is its end
+abbrev pub EndsIfFewer : (text : List ℕ) → (i p : ℕ) → Type 0
+EndsIfFewer text i p = (n : ℕ) → Whole text n → n ≤ i → p ≡ length text

@@ -1,7 +1,7 @@
 //! Two passes over a text: the first counts its tokens and may refuse, the second writes them and can't.
 ghost use Rattle.std.specs.Prelude.{◌≡◌, ◌*◌, ◌≤◌, length};
 ghost use Rattle.lexer.specs.Token.{blank};
-ghost use Rattle.lexer.specs.Outcome.{Counted, Whole, Written, PlaceOfToken};
+ghost use Rattle.lexer.specs.Outcome.{Counted, Whole, Written, PlaceOfToken, EndsIfFewer};
 
 use super::piece::token_at;
 use base::Refusal;
@@ -41,7 +41,8 @@ pub(crate) fn count(text: &[u8]) -> Result<u64, Refusal>
 
 /// Where token `index` begins; the text's length where there are fewer.
 pub(crate) fn place(text: &[u8], index: u64) -> usize
-    ensures { PlaceOfToken text.now index result }
+    ensures begins { PlaceOfToken text.now index result }
+    ensures fewer { EndsIfFewer text.now index result }
 {
     let mut i = 0;
     let mut n = 0;

@@ -2,7 +2,7 @@
 #![tactic(auto)]
 
 ghost use Rattle.std.specs.Prelude.{◌≡◌};
-ghost use Rattle.lexer.specs.Outcome.{Tokenized, PlaceOfToken};
+ghost use Rattle.lexer.specs.Outcome.{Tokenized, PlaceOfToken, EndsIfFewer};
 ghost use Rattle.lexer.specs.Laws.{OneWay, OnePlace, RefusedRightly, PlaceInCharacters, BlanksAlike, BlanksBetween, PairsBack, PairIsToken, OnePair};
 
 use base::{Op, Refusal};
@@ -61,7 +61,8 @@ pub fn tokenize(text: &str, room: &mut [u16]) -> Result<u64, Refusal>
 
 /// Where token `index` of a text begins; the text's length where there are fewer. For messages.
 pub fn token_place(text: &str, index: u64) -> usize
-    ensures { PlaceOfToken text.now index result }
+    ensures begins { PlaceOfToken text.now index result }
+    ensures fewer { EndsIfFewer text.now index result }
 {
     cut::place(text.as_bytes(), index)
 }

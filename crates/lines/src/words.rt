@@ -31,7 +31,7 @@ impl<T: Drop> From<AllocFailed<T>> for ReadError {
 }
 
 /// A number up to 2^64 - 1; zeros may lead it, and a sign may not.
-fn number(word: &str) -> Option<u64>
+pub fn number(word: &str) -> Option<u64>
     ensures { result ≡ number_of word.now }
 {
     if word.starts_with('+') {

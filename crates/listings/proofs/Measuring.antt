@@ -1,12 +1,12 @@
 -- The needs of a program, found from its text. Assumes nothing.
-use Rattle.std.proofs.Common.{◌≡◌, ℕ, zero, suc, ◌+◌, ◌*◌, ◌<◌, ◌≤◌, min, List, [], ◌∷◌, length, get_or, Ok, Err, vec_items, string_bytes, Result, Vec, String, sym, refl, ap, ◌∙◌, subst, arith}
+use Rattle.std.proofs.Common.{◌≡◌, ℕ, zero, suc, ◌+◌, ◌*◌, ◌<◌, List, [], ◌∷◌, length, get_or, Ok, Err, vec_items, string_bytes, Result, String, sym, refl, ap, ◌∙◌, subst, arith}
 use Rattle.std.specs.declared.alloc.Global.{Global}
 use Rattle.base.specs.declared.Refusal.{Refusal}
-use Rattle.base.specs.declared.Refusal.TheVariants.{Token as Bad-token, Program as No-program, Limit, Room, Length, Off, Time, Stamp, Point}
+use Rattle.base.specs.declared.Refusal.TheVariants.{Token as BadToken, Program as NoProgram, Limit, Room, Length, Off, Time, Stamp, Point}
 use Rattle.lexer.specs.declared.Token.{Token}
 use Rattle.lexer.specs.Token.{Cuts, none, skip, piece}
 use Rattle.lexer.specs.Pairs.{pairs, tokens_in}
-use Rattle.lexer.specs.Outcome.{Whole, Broken}
+use Rattle.lexer.specs.Outcome.{Whole}
 use Rattle.lexer.proofs.Cutting.{one_way, refused_rightly_lem}
 use Rattle.lexer.proofs.PairLaws.{pairs_back, pairs_length, cuts_shaped, spelled_word}
 use Rattle.syntax.specs.Ast.{Stmt}
@@ -14,20 +14,17 @@ use Rattle.syntax.specs.Grammar.{Reads}
 use Rattle.syntax.specs.Outcomes.{Parses}
 use Rattle.syntax.specs.Program.{ProgramOf}
 use Rattle.syntax.specs.Shape.{WellShaped}
-use Rattle.syntax.specs.Theorems.{Placed}
 use Rattle.syntax.proofs.Complete.{one_tree}
-use Rattle.semantics.specs.Eval.{meaning}
-use Rattle.semantics.specs.Needs.{stmt_need, Fits}
+use Rattle.semantics.specs.Needs.{stmt_need}
 use Rattle.semantics.specs.Measured.{Measures, Measured}
 use Rattle.semantics.specs.declared.limits.Needs.{Needs}
-use Rattle.compiler.specs.Right.{Compiled}
 use Rattle.headers.specs.Header.{Plan, read_project}
 use Rattle.listings.specs.ListingText.{listing}
 use Rattle.loading.specs.declared.load.Failure.{Failure}
 use Rattle.loading.specs.declared.load.Failure.TheVariants.{Memory, Header, Program, Script}
 use Rattle.loading.specs.declared.load.Loaded.{Loaded}
-use Rattle.loading.specs.Loading.{CutUp, Parsed, Ready, Declined, CutInto}
-use Rattle.listings.specs.Listing.{Listed, NeedsIn, NeedsOf}
+use Rattle.loading.specs.Loading.{CutUp, Ready, ReadyWithinNeeds, Declined, CutInto}
+use Rattle.listings.specs.Listing.{Listed, ListedWithinNeeds, NeedsIn, NeedsOf}
 
 -- every number of a text's tokens is a word
 words_cut : {f rest : List ℕ} {ts : List Token} → Cuts f ts rest → (j : ℕ) → j < length ts → get_or (pairs ts) (2 * j + 1) 0 < 65536
@@ -47,9 +44,9 @@ cut_shaped text ts c j h =
 
 -- tokens that are a program are not refused
 pub not_refused : (xs : List ℕ) (e : Refusal) → Parses xs (Err e) → (text : List ℕ) (ts : List Token) (s : Stmt) → CutUp text ts → xs ≡ pairs ts → Reads ts s → ⊥
-not_refused xs (Bad-token i) m text ts s c is r =
+not_refused xs (BadToken i) m text ts s c is r =
     m.here (subst WellShaped (sym is) (cut_shaped text ts c) i m.there)
-not_refused xs (No-program i) p text ts s c is r =
+not_refused xs (NoProgram i) p text ts s c is r =
     p.1.none s (subst (λ (us : List Token). Reads us s) (sym (ap tokens_in is ∙ pairs_back ts)) r)
 not_refused xs (Limit i) m text ts s c is r = m
 not_refused xs (Room i) m text ts s c is r = m
@@ -112,6 +109,10 @@ listed project l n text r m e =
       code = vec_items l.code;
       taken = r.taken;
       compiled = r.compiled;
-      within = r.within;
       answer = e ∙ (λ i. listing (vec_items l.code) (cheap i) (k.height i) (k.depth i));
     }
+
+-- and so it is within the needs
+pub listed_within_needs : (project : List ℕ) (l : Loaded) (n : Needs) (text : String Global) → ReadyWithinNeeds project l → NeedsOf project (Ok n) → string_bytes text ≡ listing (vec_items l.code) n.cost n.height n.depth → ListedWithinNeeds project text
+unfolding listed
+listed_within_needs project l n text r m e = record { listed = listed project l n text r.ready m e; within = r.within }

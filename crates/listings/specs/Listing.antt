@@ -17,20 +17,28 @@ use Rattle.loading.specs.declared.load.Failure.{Failure}
 use Rattle.loading.specs.declared.load.Failure.TheVariants.{Memory}
 use Rattle.loading.specs.Loading.{CutUp, Parsed, Taken, Declined}
 
--- a project is listed: it is taken, and the listing shows code that is right for its program, within what the program needs, and these needs
+-- a project is listed: it is taken, and the listing shows code that is right for its program, and what the program needs
 pub record Listed (project : List ℕ) (text : String Global) : Type 0 where
   pub plan : Plan
   pub program : Stmt
   pub code : List ℕ
   pub taken : Taken project plan program
   pub compiled : Compiled 64 (meaning program) code
-  pub within : Right (meaning program) (stmt_need program) (code_in code)
   pub answer : string_bytes text ≡ listing code (stmt_need program).cost (stmt_need program).height (stmt_need program).depth
+
+-- and the code stays within what the program needs
+pub record ListedWithinNeeds (project : List ℕ) (text : String Global) : Type 0 where
+  pub listed : Listed project text
+  pub within : Right (meaning listed.program) (stmt_need listed.program) (code_in listed.code)
 
 -- a project is listed, or it is not taken
 abbrev pub Lists : (project : List ℕ) → Result (String Global) Failure → Type 0
 Lists project (Ok text) = Listed project text
 Lists project (Err f) = Declined project f
+
+abbrev pub ListsWithinNeeds : (project : List ℕ) → Result (String Global) Failure → Type 0
+ListsWithinNeeds project (Ok text) = ListedWithinNeeds project text
+ListsWithinNeeds project (Err f) = Declined project f
 
 -- the needs of the program that the tokens of a text are; of a program's tokens there are always some
 abbrev pub NeedsIn : (tokens : List ℕ) → Result Needs Failure → Type 0

@@ -101,7 +101,7 @@ fn instruction_of(kind: u16, a: u16, b: u16, c: u16) -> Instruction
 }
 
 /// The listing of code, four numbers to an instruction, with what the program costs and how high it goes.
-pub(crate) fn listing_text(
+pub fn listing_text(
     heap: Global,
     code: &[u16],
     cost: u32,

@@ -1,3 +1,5 @@
 //! The listing of a project: its code, an instruction a line, and what it needs.
-mod code;
+#![tactic(auto)]
+
+pub mod code;
 pub mod listing;

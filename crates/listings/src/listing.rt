@@ -1,5 +1,5 @@
 //! A project's program as the listing that a maker prints.
-ghost use Rattle.listings.specs.Listing.{Lists, NeedsIn, NeedsOf};
+ghost use Rattle.listings.specs.Listing.{Lists, ListsWithinNeeds, NeedsIn, NeedsOf};
 
 use crate::code::listing_text;
 use base::Refusal;
@@ -37,7 +37,8 @@ fn needs_of(heap: Global, project: &str) -> Result<Needs, Failure>
 
 /// The listing of a project's code, and what it needs.
 pub fn listing(heap: Global, project: &str) -> Result<String, Failure>
-    ensures { Lists project.now result }
+    ensures lists { Lists project.now result }
+    ensures within { ListsWithinNeeds project.now result }
 {
     let loaded = load(heap, project)?;
     let need = needs_of(heap, project)?;

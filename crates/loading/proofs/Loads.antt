@@ -1,7 +1,7 @@
 -- What is known of a text once it was cut and compiled.
-use Rattle.std.proofs.Common.{◌≡◌, ℕ, ◌+◌, ◌-◌, ◌*◌, ◌/◌, ◌<◌, ◌≤◌, List, length, get_or, take, Err, sym, refl, ap, ◌∙◌, subst, arith}
+use Rattle.std.proofs.Common.{◌≡◌, ℕ, ◌+◌, ◌-◌, ◌*◌, ◌/◌, ◌<◌, ◌≤◌, List, length, get_or, take, Ok, Err, vec_items, sym, refl, ap, ◌∙◌, subst, arith}
 use Rattle.base.specs.declared.Refusal.{Refusal}
-use Rattle.base.specs.declared.Refusal.TheVariants.{Token as Bad-token, Program as No-program, Limit, Room, Length, Off, Time, Stamp, Point}
+use Rattle.base.specs.declared.Refusal.TheVariants.{Token as BadToken, Program as NoProgram, Limit, Room, Length, Off, Time, Stamp, Point}
 use Rattle.lexer.specs.declared.Token.{Token}
 use Rattle.lexer.specs.Pairs.{pairs, tokens_in}
 use Rattle.lexer.specs.Outcome.{Broken, Written, Refused}
@@ -12,16 +12,18 @@ use Rattle.syntax.specs.Theorems.{Placed}
 use Rattle.syntax.specs.Shape.{Fine, Misshapen}
 use Rattle.semantics.specs.Eval.{meaning}
 use Rattle.semantics.specs.Needs.{stmt_need, Fits}
-use Rattle.compiler.specs.Made.{Made, Refused as Unmade-so, NeverShort}
+use Rattle.compiler.specs.Made.{Made, Refused as UnmadeSo, NeverShort}
 use Rattle.compiler.specs.Code.{code_in}
 use Rattle.compiler.specs.Right.{Right, Compiled}
 use Rattle.compiler.proofs.Within.{coded_within}
-use Rattle.loading.specs.Loading.{CutUp, Uncoded}
+use Rattle.headers.specs.Header.{Plan, read_project}
+use Rattle.loading.specs.declared.load.Loaded.{Loaded}
+use Rattle.loading.specs.Loading.{CutUp, Uncoded, ReadyWithinNeeds}
 
 -- a text that is refused, with a room of the right length, can't be cut
-pub uncut : (text room : List ℕ) (e : Refusal) → length room ≡ 8192 → Refused text room e → (p : ℕ) × (e ≡ Bad-token p) × Broken text p
-uncut text room (Bad-token p) l h = (p, refl, h)
-uncut text room (No-program p) l h = absurd h
+pub uncut : (text room : List ℕ) (e : Refusal) → length room ≡ 8192 → Refused text room e → (p : ℕ) × (e ≡ BadToken p) × Broken text p
+uncut text room (BadToken p) l h = (p, refl, h)
+uncut text room (NoProgram p) l h = absurd h
 uncut text room (Limit p) l h = absurd h
 uncut text room (Room p) l h = absurd h
 uncut text room (Length i) l h = absurd (h.2 l)
@@ -44,13 +46,13 @@ whole text ts i c small lt =
     record { there = omega (arith, pairs_length ts); few = omega (arith, c.few); word = small (2 * i + 1); is = cuts_shaped c.cuts i low }
 
 -- why the tokens of a text are not made into code
-pub uncoded : (xs room : List ℕ) (e : Refusal) → ((j : ℕ) → get_or xs j 0 < 65536) → length room ≡ 16388 → Unmade-so xs room e → NeverShort xs (Err e) →
+pub uncoded : (xs room : List ℕ) (e : Refusal) → ((j : ℕ) → get_or xs j 0 < 65536) → length room ≡ 16388 → UnmadeSo xs room e → NeverShort xs (Err e) →
     (text : List ℕ) (ts : List Token) → CutUp text ts → xs ≡ pairs ts → Uncoded ts e
-uncoded xs room (Bad-token i) small l h short text ts c q =
+uncoded xs room (BadToken i) small l h short text ts c q =
     let g : Misshapen (pairs ts) i = subst (λ (v : List ℕ). Misshapen v i) q h in
     let words : (j : ℕ) → get_or (pairs ts) j 0 < 65536 = λ j. subst (λ (v : List ℕ). get_or v j 0 < 65536) q (small j) in
     absurd (g.here (whole text ts i c words g.there))
-uncoded xs room (No-program i) small l h short text ts c q = subst (λ (v : List Token). Placed v i) (ap tokens_in q ∙ pairs_back ts) h.1
+uncoded xs room (NoProgram i) small l h short text ts c q = subst (λ (v : List Token). Placed v i) (ap tokens_in q ∙ pairs_back ts) h.1
 uncoded xs room (Limit k) small l h short text ts c q =
     (h.program, subst (λ (v : List Token). Reads v h.program) (ap tokens_in q ∙ pairs_back ts) h.reads, h.unfit)
 uncoded xs room (Room k) small l h short text ts c q =
@@ -75,3 +77,20 @@ coded xs room room' n code m right e ts q =
       subst (λ (v : List ℕ). Compiled 64 (meaning m.program) v) (sym front) (right m.program m.reads),
       subst (λ (v : List ℕ). Right (meaning m.program) (stmt_need m.program) (code_in v)) (sym front) (coded_within m.program room room' n m.coded),
     )
+
+-- what is loaded is ready, within the needs of the program that its tokens are
+pub ready_within : (text : List ℕ) (l : Loaded) (h : Plan) (ts : List Token) → read_project text ≡ Ok h → CutUp h.program ts →
+    (s : Stmt) × Reads ts s × Fits (stmt_need s) × Compiled 64 (meaning s) (vec_items l.code) × Right (meaning s) (stmt_need s) (code_in (vec_items l.code)) →
+    h.kept ≤ 64 → l.kept ≡ h.kept → l.inputs ≡ h.inputs → l.firsts ≡ h.firsts → ReadyWithinNeeds text l
+ready_within text l h ts header cut w low kept inputs firsts = record {
+  ready = record {
+    plan = h;
+    program = w.0;
+    taken = record { parsed = record { tokens = ts; read_up = record { header = header; cut_up = cut }; reads = w.1 }; fits = w.2; low = low };
+    same_kept = kept;
+    same_inputs = inputs;
+    same_firsts = firsts;
+    compiled = w.3;
+  };
+  within = w.4;
+}

@@ -2,7 +2,7 @@
 use Rattle.std.specs.Prelude.{◌≡◌, ℕ, ◌<◌, ◌≤◌, List, [], length, Some, Ok, Err, vec_items, Result, Vec}
 use Rattle.std.specs.declared.alloc.Global.{Global}
 use Rattle.base.specs.declared.Refusal.{Refusal}
-use Rattle.base.specs.declared.Refusal.TheVariants.{Token as Bad-token, Program as No-program, Limit, Room, Length, Off, Time, Stamp, Point}
+use Rattle.base.specs.declared.Refusal.TheVariants.{Token as BadToken, Program as NoProgram, Limit, Room, Length, Off, Time, Stamp, Point}
 use Rattle.lexer.specs.declared.Token.{Token}
 use Rattle.lexer.specs.Token.{Cuts}
 use Rattle.lexer.specs.Pairs.{pairs}
@@ -48,9 +48,9 @@ Passes s k = passes_limit (stmt_need s).cost (stmt_need s).height (stmt_need s).
 
 -- why a header is refused: a word of it does not fit; or all is well but for more kept variables than there are
 abbrev pub HeaderRefused : (text : List ℕ) → Refusal → Type 0
-HeaderRefused text (Bad-token p) = read_project text ≡ Err p
+HeaderRefused text (BadToken p) = read_project text ≡ Err p
 HeaderRefused text (Length i) = (i ≡ 0) × ((h : Plan) × (s : Stmt) × Parsed text h s × Fits (stmt_need s) × (64 < h.kept))
-HeaderRefused text (No-program p) = ⊥
+HeaderRefused text (NoProgram p) = ⊥
 HeaderRefused text (Limit p) = ⊥
 HeaderRefused text (Room p) = ⊥
 HeaderRefused text Off = ⊥
@@ -60,8 +60,8 @@ HeaderRefused text (Point p) = ⊥
 
 -- why a program is refused: its text can't be cut, its tokens are no program from a place on, or it passes a limit
 abbrev pub ProgramRefused : (text : List ℕ) → Refusal → Type 0
-ProgramRefused text (Bad-token p) = (h : Plan) × (read_project text ≡ Ok h) × Broken h.program p
-ProgramRefused text (No-program i) = (h : Plan) × (ts : List Token) × ReadUp text h ts × Placed ts i
+ProgramRefused text (BadToken p) = (h : Plan) × (read_project text ≡ Ok h) × Broken h.program p
+ProgramRefused text (NoProgram i) = (h : Plan) × (ts : List Token) × ReadUp text h ts × Placed ts i
 ProgramRefused text (Limit k) = (h : Plan) × (s : Stmt) × Parsed text h s × Passes s k
 ProgramRefused text (Room p) = ⊥
 ProgramRefused text (Length p) = ⊥
@@ -77,7 +77,7 @@ Declined text (Header e) = HeaderRefused text e
 Declined text (Program e) = ProgramRefused text e
 Declined text (Script e) = ⊥
 
--- a project is ready to run: it is taken, and the code is right for its program, within what that needs
+-- a project is ready to run: it is taken, and the code is right for its program
 pub record Ready (text : List ℕ) (l : Loaded) : Type 0 where
   pub plan : Plan
   pub program : Stmt
@@ -86,26 +86,34 @@ pub record Ready (text : List ℕ) (l : Loaded) : Type 0 where
   pub same_inputs : l.inputs ≡ plan.inputs
   pub same_firsts : l.firsts ≡ plan.firsts
   pub compiled : Compiled 64 (meaning program) (vec_items l.code)
-  pub within : Right (meaning program) (stmt_need program) (code_in (vec_items l.code))
+
+-- and its code stays within what that program needs
+pub record ReadyWithinNeeds (text : List ℕ) (l : Loaded) : Type 0 where
+  pub ready : Ready text l
+  pub within : Right (meaning ready.program) (stmt_need ready.program) (code_in (vec_items l.code))
 
 -- a project is loaded, or it is not taken
 abbrev pub Loads : (text : List ℕ) → Result Loaded Failure → Type 0
 Loads text (Ok l) = Ready text l
 Loads text (Err f) = Declined text f
 
+abbrev pub LoadsWithinNeeds : (text : List ℕ) → Result Loaded Failure → Type 0
+LoadsWithinNeeds text (Ok l) = ReadyWithinNeeds text l
+LoadsWithinNeeds text (Err f) = Declined text f
+
 -- what cutting a program's text answers
 abbrev pub CutInto : (text : List ℕ) → Result (Vec ℕ Global) Failure → Type 0
 CutInto text (Ok v) = (ts : List Token) × (vec_items v ≡ pairs ts) × CutUp text ts
 CutInto text (Err Memory) = Unit {0}
 CutInto text (Err (Header e)) = ⊥
-CutInto text (Err (Program e)) = (p : ℕ) × (e ≡ Bad-token p) × Broken text p
+CutInto text (Err (Program e)) = (p : ℕ) × (e ≡ BadToken p) × Broken text p
 CutInto text (Err (Script e)) = ⊥
 
 -- why tokens are not made into code: where they are no program, and where it passes a limit
 abbrev pub Uncoded : List Token → Refusal → Type 0
-Uncoded ts (No-program i) = Placed ts i
+Uncoded ts (NoProgram i) = Placed ts i
 Uncoded ts (Limit k) = (s : Stmt) × Reads ts s × Passes s k
-Uncoded ts (Bad-token p) = ⊥
+Uncoded ts (BadToken p) = ⊥
 Uncoded ts (Room p) = ⊥
 Uncoded ts (Length p) = ⊥
 Uncoded ts Off = ⊥
@@ -115,8 +123,14 @@ Uncoded ts (Point p) = ⊥
 
 -- what compiling the tokens of a text answers
 abbrev pub CodedFor : (tokens : List ℕ) → Result (Vec ℕ Global) Failure → Type 0
-CodedFor xs (Ok v) = (ts : List Token) → xs ≡ pairs ts → (s : Stmt) × Reads ts s × Fits (stmt_need s) × Compiled 64 (meaning s) (vec_items v) × Right (meaning s) (stmt_need s) (code_in (vec_items v))
+CodedFor xs (Ok v) = (ts : List Token) → xs ≡ pairs ts → (s : Stmt) × Reads ts s × Fits (stmt_need s) × Compiled 64 (meaning s) (vec_items v)
 CodedFor xs (Err Memory) = Unit {0}
 CodedFor xs (Err (Header e)) = ⊥
 CodedFor xs (Err (Program e)) = (text : List ℕ) (ts : List Token) → CutUp text ts → xs ≡ pairs ts → Uncoded ts e
 CodedFor xs (Err (Script e)) = ⊥
+
+-- and, where they are, that the code stays within what the program needs
+abbrev pub CodedWithinNeeds : (tokens : List ℕ) → Result (Vec ℕ Global) Failure → Type 0
+CodedWithinNeeds xs (Ok v) =
+    (ts : List Token) → xs ≡ pairs ts → (s : Stmt) × Reads ts s × Fits (stmt_need s) × Compiled 64 (meaning s) (vec_items v) × Right (meaning s) (stmt_need s) (code_in (vec_items v))
+CodedWithinNeeds xs (Err f) = Unit {0}

@@ -1,6 +1,6 @@
 //! A project's text made ready to run: what its header says, and the code of its program.
 ghost use Rattle.std.specs.Prelude.{◌≡◌};
-ghost use Rattle.loading.specs.Loading.{CutInto, CodedFor, Loads};
+ghost use Rattle.loading.specs.Loading.{CutInto, CodedFor, CodedWithinNeeds, Loads, LoadsWithinNeeds};
 
 use base::Refusal;
 use compiler::make;
@@ -51,8 +51,9 @@ pub fn tokens_of(heap: Global, text: &str) -> Result<Vec<u16>, Failure>
 }
 
 /// The code of the program that tokens are.
-fn code_of(heap: Global, tokens: &[u16]) -> Result<Vec<u16>, Failure>
-    ensures { CodedFor tokens.now result }
+pub fn code_of(heap: Global, tokens: &[u16]) -> Result<Vec<u16>, Failure>
+    ensures coded { CodedFor tokens.now result }
+    ensures within { CodedWithinNeeds tokens.now result }
 {
     let mut room = [0; CODE_ROOM];
     match make(tokens, &mut room) {
@@ -66,7 +67,8 @@ fn code_of(heap: Global, tokens: &[u16]) -> Result<Vec<u16>, Failure>
 
 /// A project's text, read and compiled. The checks run in the order of the refusals' numbers.
 pub fn load(heap: Global, text: &str) -> Result<Loaded, Failure>
-    ensures { Loads text.now result }
+    ensures loads { Loads text.now result }
+    ensures within { LoadsWithinNeeds text.now result }
 {
     let project = match read_project(text) {
         Ok(project) => project,

@@ -1,4 +1,6 @@
 //! Prints the code of the project that the first argument names, and what it needs.
+#![tactic(auto)]
+
 use project::listing::listing;
 use project::message::message;
 use std::process::ExitCode;

@@ -1,23 +1,23 @@
 -- Messages that point at a place. Assumes nothing.
-use Rattle.std.proofs.Common.{◌≡◌, ℕ, ◌+◌, ◌*◌, ◌/◌, ◌<◌, ◌≤◌, min, false, eqb, List, length, IfOk, Ok, Err, vec_items, string_bytes, codes, Result, Vec, String, sym, refl, ap, ◌∙◌, subst, ap₂, subst₂, arith}
+use Rattle.std.proofs.Common.{◌≡◌, ℕ, ◌+◌, ◌*◌, ◌/◌, min, false, eqb, List, length, IfOk, Ok, Err, vec_items, string_bytes, codes, Result, Vec, String, sym, refl, ap, ◌∙◌, subst, ap₂, subst₂, arith}
 use Rattle.std.specs.declared.alloc.AllocError.{AllocError}
 use Rattle.std.specs.declared.alloc.Global.{Global}
 use Rattle.std.proofs.lemmas.Bool.{ne_eqb}
 use Rattle.base.specs.declared.Refusal.{Refusal}
-use Rattle.base.specs.declared.Refusal.TheVariants.{Token as Bad-token, Program as No-program, Limit, Room, Length, Off, Time, Stamp, Point}
+use Rattle.base.specs.declared.Refusal.TheVariants.{Token as BadToken, Program as NoProgram, Limit, Room, Length, Off, Time, Stamp, Point}
 use Rattle.lexer.specs.declared.Token.{Token}
-use Rattle.lexer.specs.Pairs.{pairs}
 use Rattle.lexer.proofs.Cutting.{one_way}
 use Rattle.lexer.proofs.PairLaws.{pairs_length}
 use Rattle.loading.specs.Loading.{CutUp, CutInto}
 use Rattle.loading.specs.declared.load.Failure.{Failure}
+use Rattle.loading.specs.declared.load.Failure.TheVariants.{Memory, Header, Program, Script}
 use Rattle.messages.specs.MessageText.{message}
-use Rattle.messages.specs.Messages.{program_start, program_text, limit_text, by_token, TokenStands, Points, Mismatched, LimitSays, ProgramSays, Says}
+use Rattle.messages.specs.Messages.{program_start, program_text, limit_text, by_token, TokenStands, Points, Mismatched, LimitSays, ProgramSays, Says, SaysWhere}
 
 -- of a refusal that is not 1 the other thing
-pub no_token : {A : Type 0} (e : Refusal) (of-token : ℕ → A) (other : A) → ((p : ℕ) → e ≡ Bad-token p → ⊥) → by_token e of-token other ≡ other
-no_token (Bad-token p) f other h = absurd (h p refl)
-no_token (No-program p) f other h = refl
+pub no_token : {A : Type 0} (e : Refusal) (of-token : ℕ → A) (other : A) → ((p : ℕ) → e ≡ BadToken p → ⊥) → by_token e of-token other ≡ other
+no_token (BadToken p) f other h = absurd (h p refl)
+no_token (NoProgram p) f other h = refl
 no_token (Limit p) f other h = refl
 no_token (Room p) f other h = refl
 no_token (Length p) f other h = refl
@@ -41,9 +41,9 @@ at_place (Err x) file text e at at₁ sentence sentence₁ place same is = tt
 
 module _ (r : Result (String Global) AllocError) (file text : List ℕ) where
   -- what is said of any refusal but 1 and 2
-  pub limit_said : (e : Refusal) → ((p : ℕ) → e ≡ Bad-token p → ⊥) → ((p : ℕ) → e ≡ No-program p → ⊥) → IfOk r (λ s. LimitSays file text e (string_bytes s)) → IfOk r (λ s. ProgramSays file text e (string_bytes s))
-  limit_said (Bad-token p) a b h = absurd (a p refl)
-  limit_said (No-program p) a b h = absurd (b p refl)
+  pub limit_said : (e : Refusal) → ((p : ℕ) → e ≡ BadToken p → ⊥) → ((p : ℕ) → e ≡ NoProgram p → ⊥) → IfOk r (λ s. LimitSays file text e (string_bytes s)) → IfOk r (λ s. ProgramSays file text e (string_bytes s))
+  limit_said (BadToken p) a b h = absurd (a p refl)
+  limit_said (NoProgram p) a b h = absurd (b p refl)
   limit_said (Limit p) a b h = h
   limit_said (Room p) a b h = h
   limit_said (Length p) a b h = h
@@ -52,14 +52,14 @@ module _ (r : Result (String Global) AllocError) (file text : List ℕ) where
   limit_said Stamp a b h = h
   limit_said (Point p) a b h = h
 
-pub token_said : (r : Result (String Global) AllocError) (file text : List ℕ) (e : Refusal) (start at p : ℕ) (sentence : List ℕ) → e ≡ Bad-token p → start ≡ program_start text → at ≡ min (length text) (start + p) →
-    IfOk r (λ s. string_bytes s ≡ message file text at (Bad-token p) sentence) → IfOk r (λ s. ProgramSays file text e (string_bytes s))
+pub token_said : (r : Result (String Global) AllocError) (file text : List ℕ) (e : Refusal) (start at p : ℕ) (sentence : List ℕ) → e ≡ BadToken p → start ≡ program_start text → at ≡ min (length text) (start + p) →
+    IfOk r (λ s. string_bytes s ≡ message file text at (BadToken p) sentence) → IfOk r (λ s. ProgramSays file text e (string_bytes s))
 token_said (Ok s) file text e start at p sentence same starts place is =
     subst (λ (x : Refusal). ProgramSays file text x (string_bytes s)) (sym same)
-    (record { sentence = sentence; is = is ∙ ap (λ (n : ℕ). message file text n (Bad-token p) sentence) (place ∙ ap (λ (n : ℕ). min (length text) (n + p)) starts) })
+    (record { sentence = sentence; is = is ∙ ap (λ (n : ℕ). message file text n (BadToken p) sentence) (place ∙ ap (λ (n : ℕ). min (length text) (n + p)) starts) })
 token_said (Err x) file text e start at p sentence same starts place is = tt
 
-pub program_said : (r : Result (String Global) AllocError) (file text : List ℕ) (e : Refusal) (i at : ℕ) (program : List ℕ) → e ≡ No-program i → at ≡ program_start text → program ≡ program_text text →
+pub program_said : (r : Result (String Global) AllocError) (file text : List ℕ) (e : Refusal) (i at : ℕ) (program : List ℕ) → e ≡ NoProgram i → at ≡ program_start text → program ≡ program_text text →
     IfOk r (λ s. Mismatched file text at program i (string_bytes s)) → IfOk r (λ s. ProgramSays file text e (string_bytes s))
 program_said (Ok s) file text e i at program same starts is h =
     subst (λ (x : Refusal). ProgramSays file text x (string_bytes s)) (sym same)
@@ -74,7 +74,7 @@ count_is text v n c long ts up =
     omega (arith, size)
 
 pub token_pointed : (r : Result (String Global) AllocError) (file text : List ℕ) (start : ℕ) (program : List ℕ) (i at : ℕ) (sentence : List ℕ) (v : Vec ℕ Global) (n : ℕ) → CutInto program (Ok v) → n ≡ length (vec_items v) →
-    TokenStands text program start (n / 2) i at → IfOk r (λ s. string_bytes s ≡ message file text at (No-program i) sentence) → IfOk r (λ s. Mismatched file text start program i (string_bytes s))
+    TokenStands text program start (n / 2) i at → IfOk r (λ s. string_bytes s ≡ message file text at (NoProgram i) sentence) → IfOk r (λ s. Mismatched file text start program i (string_bytes s))
 token_pointed (Ok s) file text start program i at sentence v n c long stands is =
     record {
       at = at;
@@ -83,6 +83,29 @@ token_pointed (Ok s) file text start program i at sentence v n c long stands is 
     }
 token_pointed (Err x) file text start program i at sentence v n c long stands is = tt
 
+-- whatever is said of a program, it points somewhere
+program_points : (file text : List ℕ) (e : Refusal) (line : List ℕ) → ProgramSays file text e line → Points file text e line
+program_points file text (BadToken p) line h = record { at = min (length text) (program_start text + p); sentence = h.sentence; is = h.is }
+program_points file text (NoProgram i) line h = record { at = h.at; sentence = h.points.sentence; is = h.points.is }
+program_points file text (Limit k) line h = record { at = _; sentence = _; is = h }
+program_points file text (Room k) line h = record { at = _; sentence = _; is = h }
+program_points file text (Length k) line h = record { at = _; sentence = _; is = h }
+program_points file text Off line h = record { at = _; sentence = _; is = h }
+program_points file text Time line h = record { at = _; sentence = _; is = h }
+program_points file text Stamp line h = record { at = _; sentence = _; is = h }
+program_points file text (Point k) line h = record { at = _; sentence = _; is = h }
+
+-- what says where it points says what it should
+says : (file project script : List ℕ) (f : Failure) (line : List ℕ) → SaysWhere file project script f line → Says file project script f line
+says file project script Memory line h = h
+says file project script (Header e) line h = record { at = _; sentence = _; is = h }
+says file project script (Program e) line h = program_points file project e line h
+says file project script (Script e) line h = h
+
+pub says_of : (r : Result (String Global) AllocError) (file project script : List ℕ) (f : Failure) → IfOk r (λ s. SaysWhere file project script f (string_bytes s)) → IfOk r (λ s. Says file project script f (string_bytes s))
+says_of (Ok s) file project script f h = says file project script f (string_bytes s) h
+says_of (Err x) file project script f h = tt
+
 -- what is said of a failure that is known
-pub said_of : (r : Result (String Global) AllocError) (file project script : List ℕ) (f g : Failure) → f ≡ g → IfOk r (λ s. Says file project script g (string_bytes s)) → IfOk r (λ s. Says file project script f (string_bytes s))
-said_of r file project script f g e = subst (λ (x : Failure). IfOk r (λ s. Says file project script x (string_bytes s))) (sym e)
+pub said_of : (r : Result (String Global) AllocError) (file project script : List ℕ) (f g : Failure) → f ≡ g → IfOk r (λ s. SaysWhere file project script g (string_bytes s)) → IfOk r (λ s. SaysWhere file project script f (string_bytes s))
+said_of r file project script f g e = subst (λ (x : Failure). IfOk r (λ s. SaysWhere file project script x (string_bytes s))) (sym e)

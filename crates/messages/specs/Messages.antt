@@ -1,7 +1,7 @@
 -- What the line says that a refused project or script ends a program with. Assumes nothing: these are definitions.
 use Rattle.std.specs.Prelude.{◌≡◌, ℕ, ◌+◌, ◌<◌, ◌≤◌, min, cond, List, [], ◌++◌, length, Ok, Err, codes, Result, ◌==◌}
 use Rattle.base.specs.declared.Refusal.{Refusal}
-use Rattle.base.specs.declared.Refusal.TheVariants.{Token as Bad-token, Program as No-program, Limit, Room, Length, Off, Time, Stamp, Point}
+use Rattle.base.specs.declared.Refusal.TheVariants.{Token as BadToken, Program as NoProgram, Limit, Room, Length, Off, Time, Stamp, Point}
 use Rattle.base.specs.Refusals.{place_of}
 use Rattle.lexer.specs.declared.Token.{Token}
 use Rattle.lexer.specs.Outcome.{PlaceOfToken}
@@ -40,8 +40,8 @@ limit_text k =
 
 -- one thing of a refusal 1, by its place, and another of any other refusal
 abbrev pub by_token : {A : Type 0} → Refusal → (ℕ → A) → A → A
-by_token (Bad-token p) of-token other = of-token p
-by_token (No-program p) of-token other = other
+by_token (BadToken p) of-token other = of-token p
+by_token (NoProgram p) of-token other = other
 by_token (Limit p) of-token other = other
 by_token (Room p) of-token other = other
 by_token (Length p) of-token other = other
@@ -63,14 +63,14 @@ TokenStands text program start n i at =
     (i < n → (q : ℕ) × PlaceOfToken program i q × (at ≡ min (length text) (start + q))) × (n ≤ i → at ≡ length text)
 
 -- a line at this place, with some sentence
-pub record Points (file text : List ℕ) (at : ℕ) (e : Refusal) (line : List ℕ) : Type 0 where
+pub record PointsAt (file text : List ℕ) (at : ℕ) (e : Refusal) (line : List ℕ) : Type 0 where
   pub sentence : List ℕ
   pub is : line ≡ message file text at e sentence
 
 -- a line that points at token i of a program
 pub record Mismatched (file text : List ℕ) (start : ℕ) (program : List ℕ) (i : ℕ) (line : List ℕ) : Type 0 where
   pub at : ℕ
-  pub points : Points file text at (No-program i) line
+  pub points : PointsAt file text at (NoProgram i) line
   pub stands : (ts : List Token) → CutUp program ts → TokenStands text program start (length ts) i at
 
 -- what is said of a program: at the character, at the token, or at the line `program`
@@ -78,8 +78,8 @@ abbrev pub LimitSays : (file text : List ℕ) → Refusal → (line : List ℕ) 
 LimitSays file text e line = line ≡ message file text (header_line text (codes "program")) e (limit_text (place_of e))
 
 abbrev pub ProgramSays : (file text : List ℕ) → Refusal → (line : List ℕ) → Type 0
-ProgramSays file text (Bad-token p) line = Points file text (min (length text) (program_start text + p)) (Bad-token p) line
-ProgramSays file text (No-program i) line = Mismatched file text (program_start text) (program_text text) i line
+ProgramSays file text (BadToken p) line = PointsAt file text (min (length text) (program_start text + p)) (BadToken p) line
+ProgramSays file text (NoProgram i) line = Mismatched file text (program_start text) (program_text text) i line
 ProgramSays file text (Limit k) line = LimitSays file text (Limit k) line
 ProgramSays file text (Room k) line = LimitSays file text (Room k) line
 ProgramSays file text (Length k) line = LimitSays file text (Length k) line
@@ -88,9 +88,22 @@ ProgramSays file text Time line = LimitSays file text Time line
 ProgramSays file text Stamp line = LimitSays file text Stamp line
 ProgramSays file text (Point k) line = LimitSays file text (Point k) line
 
+-- the line names the file, a line and a column of its text, the refusal's number and place, and ends with a sentence
+pub record Points (file text : List ℕ) (e : Refusal) (line : List ℕ) : Type 0 where
+  pub at : ℕ
+  pub sentence : List ℕ
+  pub is : line ≡ message file text at e sentence
+
 -- what is said of a failure
 abbrev pub Says : (file project script : List ℕ) → Failure → (line : List ℕ) → Type 0
 Says file project script Memory line = line ≡ file ++ codes ": out of memory"
-Says file project script (Header e) line = line ≡ message file project (header_place project e) e (header_sentence e)
-Says file project script (Program e) line = ProgramSays file project e line
+Says file project script (Header e) line = Points file project e line
+Says file project script (Program e) line = Points file project e line
 Says file project script (Script e) line = line ≡ message (codes "script") script (place_of e) e (codes "no event goes on so")
+
+-- and exactly where it points: at the word of a header, at the character or the token of a program, or at the line that passes a limit
+abbrev pub SaysWhere : (file project script : List ℕ) → Failure → (line : List ℕ) → Type 0
+SaysWhere file project script Memory line = line ≡ file ++ codes ": out of memory"
+SaysWhere file project script (Header e) line = line ≡ message file project (header_place project e) e (header_sentence e)
+SaysWhere file project script (Program e) line = ProgramSays file project e line
+SaysWhere file project script (Script e) line = line ≡ message (codes "script") script (place_of e) e (codes "no event goes on so")

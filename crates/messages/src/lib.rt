@@ -1,4 +1,6 @@
 //! What people are told of a project or a script that is refused.
+#![tactic(auto)]
+
 pub mod message;
-mod place;
+pub mod place;
 mod sentence;

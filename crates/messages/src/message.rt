@@ -1,6 +1,6 @@
 //! The line that a refused project or script ends a program with.
 ghost use Rattle.std.specs.Prelude.{◌≡◌, ◌+◌, min, length, IfOk, string_bytes};
-ghost use Rattle.messages.specs.Messages.{program_start, program_text, header_place, TokenStands, Mismatched, ProgramSays, Says};
+ghost use Rattle.messages.specs.Messages.{program_start, program_text, header_place, TokenStands, Mismatched, ProgramSays, Says, SaysWhere};
 
 use crate::place::{line_of, place_of_line};
 use crate::sentence::{header_words, limit_words, mismatch, uncut_words};
@@ -109,7 +109,8 @@ pub fn message(
     script: &str,
     failure: &Failure,
 ) -> Result<String, AllocError>
-    ensures { IfOk result (λ s. Says file.now project.now script.now failure.now (string_bytes s)) }
+    ensures says { IfOk result (λ s. Says file.now project.now script.now failure.now (string_bytes s)) }
+    ensures points { IfOk result (λ s. SaysWhere file.now project.now script.now failure.now (string_bytes s)) }
 {
     match failure {
         Failure::Memory => format!(in heap; "{file}: out of memory"),

@@ -9,7 +9,7 @@ use lines::line::Line;
 use std::alloc::{AllocError, Global};
 
 /// The line and the column of a place in a text, both counted from 1.
-fn line_and_column(text: &str, place: usize) -> (usize, usize)
+pub fn line_and_column(text: &str, place: usize) -> (usize, usize)
     ensures line { result.0 ≡ line_at text.now place }
     ensures column { result.1 ≡ column_at text.now place }
 {
@@ -45,7 +45,7 @@ fn keyword_place(text: &str, at: usize, keyword: &str) -> Option<usize>
 }
 
 /// Where the first line that begins with a keyword has it; the end of the text if there is none.
-pub(crate) fn place_of_line(text: &str, keyword: &str) -> usize
+pub fn place_of_line(text: &str, keyword: &str) -> usize
     ensures { result ≡ line_place keyword.now (lines_on 0 [] text.now) }
 {
     let mut rest = text;
@@ -64,7 +64,7 @@ pub(crate) fn place_of_line(text: &str, keyword: &str) -> usize
 }
 
 /// The message of a refusal at a place of a file's text.
-pub(crate) fn line_of(
+pub fn line_of(
     heap: Global,
     file: &str,
     text: &str,

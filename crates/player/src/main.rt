@@ -1,4 +1,6 @@
 //! Plays a script, read from standard input, through the project that the first argument names.
+#![tactic(auto)]
+
 use project::message::message;
 use project::play::play;
 use std::io::Read;

@@ -6,7 +6,7 @@ use Rattle.base.specs.Refusals.{unless}
 use Rattle.syntax.specs.Program.{Held}
 use Rattle.syntax.specs.Ast.{Expr, Stmt, assign, seq, branch, repeat, delay}
 use Rattle.lexer.specs.declared.Token.TheVariants.{Number as number, Name as name, Mark as mark}
-use Rattle.lexer.specs.declared.Mark.TheVariants.{Assign as assign-mark, Semicolon as semicolon, Comma as comma, If as if_word, Then as then-word, Else as else-word, Repeat as repeat-word, Times as times-word, Delay as delay-word, End as end-word}
+use Rattle.lexer.specs.declared.Mark.TheVariants.{Assign as assign_mark, Semicolon as semicolon, Comma as comma, If as if_word, Then as then_word, Else as else_word, Repeat as repeat_word, Times as times_word, Delay as delay_word, End as end_word}
 use Rattle.syntax.specs.Printer.{print_expr, print}
 use Rattle.syntax.specs.Tree.{Holds, HoldsSetting, HoldsStmt}
 use Rattle.printer.specs.Printed.{Puts, PutsExpr, PutsStmt, PutsSetting, SizedStmt, Prints}
@@ -20,7 +20,7 @@ module _ (m : List ℕ) {room r₁ r₂ r₃ room' : List ℕ} {at p₁ p₂ p�
       Puts (print_expr 5 e ++ (mark comma ∷ (number k ∷ (mark semicolon ∷ [])))) room at end room'
   put_setting x n q₁ q₂ q₃ q₄ e k i = rw i.0 (q₁ e i.1 then q₂ then q₃ then q₄)
 
-  pub put_assign : (v x : ℕ) → Puts (name v ∷ []) room at p₁ r₁ → Puts (mark assign-mark ∷ []) r₁ p₁ p₂ r₂ → PutsExpr m x 5 r₂ p₂ p₃ r₃ → Puts (mark semicolon ∷ []) r₃ p₃ end room' → (s : Stmt) → (e : Expr) × (s ≡ assign v e) × Holds m x e →
+  pub put_assign : (v x : ℕ) → Puts (name v ∷ []) room at p₁ r₁ → Puts (mark assign_mark ∷ []) r₁ p₁ p₂ r₂ → PutsExpr m x 5 r₂ p₂ p₃ r₃ → Puts (mark semicolon ∷ []) r₃ p₃ end room' → (s : Stmt) → (e : Expr) × (s ≡ assign v e) × Holds m x e →
       Puts (print s) room at end room'
   unfolding print
   put_assign v x q₁ q₂ q₃ q₄ s i = rw i.1 (q₁ then q₂ then q₃ i.0 i.2 then q₄)
@@ -30,18 +30,18 @@ pub put_seq : (m : List ℕ) {room r₁ room' : List ℕ} {at p₁ end : ℕ} (x
 unfolding print
 put_seq m x y q₁ q₂ s i = rw i.2 (q₁ i.0 i.3 then q₂ i.1 i.4)
 
-pub put_branch : (m : List ℕ) {room r₁ r₂ r₃ r₄ r₅ r₆ room' : List ℕ} {at p₁ p₂ p₃ p₄ p₅ p₆ end : ℕ} (x y z : ℕ) → Puts (mark if_word ∷ []) room at p₁ r₁ → PutsExpr m x 5 r₁ p₁ p₂ r₂ → Puts (mark then-word ∷ []) r₂ p₂ p₃ r₃ → PutsStmt m y r₃ p₃ p₄ r₄ →
-    Puts (mark else-word ∷ []) r₄ p₄ p₅ r₅ → PutsStmt m z r₅ p₅ p₆ r₆ → Puts (mark end-word ∷ (mark semicolon ∷ [])) r₆ p₆ end room' →
+pub put_branch : (m : List ℕ) {room r₁ r₂ r₃ r₄ r₅ r₆ room' : List ℕ} {at p₁ p₂ p₃ p₄ p₅ p₆ end : ℕ} (x y z : ℕ) → Puts (mark if_word ∷ []) room at p₁ r₁ → PutsExpr m x 5 r₁ p₁ p₂ r₂ → Puts (mark then_word ∷ []) r₂ p₂ p₃ r₃ → PutsStmt m y r₃ p₃ p₄ r₄ →
+    Puts (mark else_word ∷ []) r₄ p₄ p₅ r₅ → PutsStmt m z r₅ p₅ p₆ r₆ → Puts (mark end_word ∷ (mark semicolon ∷ [])) r₆ p₆ end room' →
     (s : Stmt) → (e : Expr) × (a : Stmt) × (b : Stmt) × (s ≡ branch e a b) × Holds m x e × HoldsStmt m y a × HoldsStmt m z b → Puts (print s) room at end room'
 unfolding print
 put_branch m x y z q₁ q₂ q₃ q₄ q₅ q₆ q₇ s i = rw i.3 (q₁ then q₂ i.0 i.4 then q₃ then q₄ i.1 i.5 then q₅ then q₆ i.2 i.6 then q₇)
 
-pub put_repeat : (m : List ℕ) {room r₁ r₂ r₃ r₄ room' : List ℕ} {at p₁ p₂ p₃ p₄ end : ℕ} (n x : ℕ) → Puts (mark repeat-word ∷ []) room at p₁ r₁ → Puts (number n ∷ []) r₁ p₁ p₂ r₂ → Puts (mark times-word ∷ []) r₂ p₂ p₃ r₃ → PutsStmt m x r₃ p₃ p₄ r₄ →
-    Puts (mark end-word ∷ (mark semicolon ∷ [])) r₄ p₄ end room' → (s : Stmt) → (a : Stmt) × (s ≡ repeat n a) × HoldsStmt m x a → Puts (print s) room at end room'
+pub put_repeat : (m : List ℕ) {room r₁ r₂ r₃ r₄ room' : List ℕ} {at p₁ p₂ p₃ p₄ end : ℕ} (n x : ℕ) → Puts (mark repeat_word ∷ []) room at p₁ r₁ → Puts (number n ∷ []) r₁ p₁ p₂ r₂ → Puts (mark times_word ∷ []) r₂ p₂ p₃ r₃ → PutsStmt m x r₃ p₃ p₄ r₄ →
+    Puts (mark end_word ∷ (mark semicolon ∷ [])) r₄ p₄ end room' → (s : Stmt) → (a : Stmt) × (s ≡ repeat n a) × HoldsStmt m x a → Puts (print s) room at end room'
 unfolding print
 put_repeat m n x q₁ q₂ q₃ q₄ q₅ s i = rw i.1 (q₁ then q₂ then q₃ then q₄ i.0 i.2 then q₅)
 
-pub put_delay_lem : (m : List ℕ) {room r₁ room' : List ℕ} {at p₁ end : ℕ} (o p x : ℕ) → Puts (mark delay-word ∷ (name o ∷ (mark comma ∷ (name p ∷ (mark comma ∷ []))))) room at p₁ r₁ → PutsSetting m x r₁ p₁ end room' →
+pub put_delay_lem : (m : List ℕ) {room r₁ room' : List ℕ} {at p₁ end : ℕ} (o p x : ℕ) → Puts (mark delay_word ∷ (name o ∷ (mark comma ∷ (name p ∷ (mark comma ∷ []))))) room at p₁ r₁ → PutsSetting m x r₁ p₁ end room' →
     (s : Stmt) → (e : Expr) × (n : ℕ) × (s ≡ delay o p e n) × HoldsSetting m x e n → Puts (print s) room at end room'
 unfolding print
 put_delay_lem m o p x q₁ q₂ s i = rw i.2 (q₁ then q₂ i.0 i.1 i.3)

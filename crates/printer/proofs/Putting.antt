@@ -5,7 +5,7 @@ use Rattle.syntax.specs.Ast.{Expr, lit, var, invert, binary}
 use Rattle.lexer.specs.declared.Token.{Token}
 use Rattle.lexer.specs.declared.Token.TheVariants.{Number as number, Name as name, Operator as operator, Mark as mark}
 use Rattle.lexer.specs.Pairs.{kind, value, pairs}
-use Rattle.lexer.specs.declared.Mark.TheVariants.{Not as not-word, Open as open-mark, Close as close-mark}
+use Rattle.lexer.specs.declared.Mark.TheVariants.{Not as not_word, Open as open_mark, Close as close_mark}
 use Rattle.syntax.specs.Grammar.{strength}
 use Rattle.syntax.specs.Printer.{bracketed, print_expr}
 use Rattle.base.specs.Rooms.{write}
@@ -48,7 +48,7 @@ pub ◌then◌ : {ts us : List Token} {room room' room'' : List ℕ} {at mid end
           ∙ sym (write_append room at (pairs ts) (pairs us)) ∙ ap (write room at) (sym (pairs_append ts us));
     }
 
-surrounded : (b : Bool) (ts : List Token) → cond b [] (mark open-mark ∷ []) ++ (ts ++ cond b [] (mark close-mark ∷ [])) ≡ bracketed b ts
+surrounded : (b : Bool) (ts : List Token) → cond b [] (mark open_mark ∷ []) ++ (ts ++ cond b [] (mark close_mark ∷ [])) ≡ bracketed b ts
 surrounded true ts = append-nil ts
 surrounded false ts = refl
 
@@ -61,7 +61,7 @@ pub put_variable : {room room' : List ℕ} {at end : ℕ} (l n : ℕ) → Puts (
 unfolding print_expr
 put_variable l n p e z = rw z p
 
-pub put_not : (m : List ℕ) {room r₁ room' : List ℕ} {at p₁ end : ℕ} (l a : ℕ) → Puts (mark not-word ∷ []) room at p₁ r₁ → PutsExpr m a 0 r₁ p₁ end room' → (e : Expr) → (x : Expr) × (e ≡ invert x) × Holds m a x → Puts (print_expr l e) room at end room'
+pub put_not : (m : List ℕ) {room r₁ room' : List ℕ} {at p₁ end : ℕ} (l a : ℕ) → Puts (mark not_word ∷ []) room at p₁ r₁ → PutsExpr m a 0 r₁ p₁ end room' → (e : Expr) → (x : Expr) × (e ≡ invert x) × Holds m a x → Puts (print_expr l e) room at end room'
 unfolding print_expr
 put_not m l a p q e i = rw i.1 (p then q i.0 i.2)
 
@@ -69,7 +69,7 @@ at_level : {room room' : List ℕ} {at end : ℕ} (j l : ℕ) (e : Expr) → j �
 at_level {room} {room'} {at} {end} j l e z p = subst (λ (x : ℕ). Puts (print_expr x e) room at end room') z p
 
 pub put_binary : (m : List ℕ) {room r₁ r₂ r₃ r₄ room' : List ℕ} {at p₁ p₂ p₃ p₄ end : ℕ} (l k s a b : ℕ) (q : Op) (bare : Bool) → q ≡ op_of k → s ≡ strength q → bare ≡ ltb s l →
-    Puts (cond bare [] (mark open-mark ∷ [])) room at p₁ r₁ → PutsExpr m a (s + 1) r₁ p₁ p₂ r₂ → Puts (operator q ∷ []) r₂ p₂ p₃ r₃ → PutsExpr m b s r₃ p₃ p₄ r₄ → Puts (cond bare [] (mark close-mark ∷ [])) r₄ p₄ end room' →
+    Puts (cond bare [] (mark open_mark ∷ [])) room at p₁ r₁ → PutsExpr m a (s + 1) r₁ p₁ p₂ r₂ → Puts (operator q ∷ []) r₂ p₂ p₃ r₃ → PutsExpr m b s r₃ p₃ p₄ r₄ → Puts (cond bare [] (mark close_mark ∷ [])) r₄ p₄ end room' →
     (e : Expr) → (o : Op) × (x : Expr) × (y : Expr) × (k ≡ op_code o) × (e ≡ binary o x y) × Holds m a x × Holds m b y → Puts (print_expr l e) room at end room'
 unfolding print_expr
 put_binary m {room = room} {r₂ = r₂} {r₃ = r₃} {room' = room'} {at = at} {p₂ = p₂} {p₃ = p₃} {end = end} l k s a b q bare v z w h₁ h₂ h₃ h₄ h₅ e i =
@@ -81,6 +81,6 @@ put_binary m {room = room} {r₂ = r₂} {r₃ = r₃} {room' = room'} {at = at}
     let op : Puts (operator o ∷ []) r₂ p₂ p₃ r₃ = subst (λ (x : Op). Puts (operator x ∷ []) r₂ p₂ p₃ r₃) same_op h₃ in
     let right = at_level s (strength o) i.2 strong (h₄ i.2 i.6) in
     let body : List Token = print_expr (suc (strength o)) i.1 ++ (operator o ∷ print_expr (strength o) i.2) in
-    let same : cond bare [] (mark open-mark ∷ []) ++ (body ++ cond bare [] (mark close-mark ∷ [])) ≡ bracketed (ltb (strength o) l) body =
+    let same : cond bare [] (mark open_mark ∷ []) ++ (body ++ cond bare [] (mark close_mark ∷ [])) ≡ bracketed (ltb (strength o) l) body =
     surrounded bare body ∙ ap (λ (t : Bool). bracketed t body) (w ∙ ap (λ (x : ℕ). ltb x l) strong) in
     subst (λ (ts : List Token). Puts ts room at end room') (same ∙ ap (print_expr l) (sym i.4)) (h₁ then ((left then op then right) then h₅))

@@ -1,7 +1,7 @@
 //! A tree written as tokens.
 ghost use Rattle.std.specs.Prelude.{◌≤◌, [], ◌∷◌, length, if◌then◌else◌};
-ghost use Rattle.lexer.specs.declared.Mark.TheVariants.{Comma as comma, Semicolon as semicolon, Delay as delay-word, End as end-word};
-ghost use Rattle.lexer.specs.declared.Token.TheVariants.{Name as name, Mark as a-mark};
+ghost use Rattle.lexer.specs.declared.Mark.TheVariants.{Comma as comma, Semicolon as semicolon, Delay as delay_word, End as end_word};
+ghost use Rattle.lexer.specs.declared.Token.TheVariants.{Name as name, Mark as a_mark};
 ghost use Rattle.printer.specs.Printed.{Puts, PutsExpr, PutsSetting, PutsStmt, Prints};
 
 use super::size::size_stmt;
@@ -29,7 +29,7 @@ fn put(room: &mut [u16], at: usize, token: Token) -> usize
 fn put_mark(room: &mut [u16], at: usize, mark: Mark) -> usize
     requires { at ≤ length room.old }
     ensures within { result ≤ length room.new }
-    ensures puts { Puts (a-mark mark ∷ []) room.old at result room.new }
+    ensures puts { Puts (a_mark mark ∷ []) room.old at result room.new }
 {
     put(room, at, Token::Mark(mark))
 }
@@ -38,7 +38,7 @@ fn put_mark(room: &mut [u16], at: usize, mark: Mark) -> usize
 fn put_bracket(room: &mut [u16], at: usize, bare: bool, mark: Mark) -> usize
     requires { at ≤ length room.old }
     ensures within { result ≤ length room.new }
-    ensures puts { Puts (if bare then [] else a-mark mark ∷ []) room.old at result room.new }
+    ensures puts { Puts (if bare then [] else a_mark mark ∷ []) room.old at result room.new }
 {
     if bare { at } else { put_mark(room, at, mark) }
 }
@@ -73,7 +73,7 @@ fn print_expr(nodes: &[u16], i: u16, level: u16, room: &mut [u16], at: usize) ->
 fn put_end(room: &mut [u16], at: usize) -> usize
     requires { at ≤ length room.old }
     ensures within { result ≤ length room.new }
-    ensures puts { Puts (a-mark end-word ∷ (a-mark semicolon ∷ [])) room.old at result room.new }
+    ensures puts { Puts (a_mark end_word ∷ (a_mark semicolon ∷ [])) room.old at result room.new }
 {
     let next = put_mark(room, at, Mark::End);
     put_mark(room, next, Mark::Semicolon)
@@ -83,7 +83,7 @@ fn put_end(room: &mut [u16], at: usize) -> usize
 fn put_delay(room: &mut [u16], at: usize, out: u16, counter: u16) -> usize
     requires { at ≤ length room.old }
     ensures within { result ≤ length room.new }
-    ensures puts { Puts (a-mark delay-word ∷ (name out ∷ (a-mark comma ∷ (name counter ∷ (a-mark comma ∷ []))))) room.old at result room.new }
+    ensures puts { Puts (a_mark delay_word ∷ (name out ∷ (a_mark comma ∷ (name counter ∷ (a_mark comma ∷ []))))) room.old at result room.new }
 {
     let a = put_mark(room, at, Mark::Delay);
     let b = put(room, a, Token::Name(out));

@@ -7,7 +7,7 @@ use Rattle.scripts.specs.declared.script.Event.{Event}
 use Rattle.scripts.specs.Script.{request, read_script}
 use Rattle.loading.specs.declared.load.Loaded.{Loaded}
 use Rattle.project.specs.declared.run.RunError.{RunError}
-use Rattle.project.specs.declared.run.RunError.TheVariants.{Memory as No-memory, Kept}
+use Rattle.project.specs.declared.run.RunError.TheVariants.{Memory as NoMemory, Kept}
 use Rattle.project.specs.Play.{played}
 use Rattle.project.specs.Running.{ToldText, Writes}
 use Rattle.project.specs.Loading.{Ready, Played, NotPlayed, failure_of}
@@ -29,5 +29,5 @@ played_so text script l lines answer r read told =
 
 -- events of a project that is ready are not played for want of memory alone
 pub unplayed_so : (text script : List ℕ) (l : Loaded) (e : RunError) (code : List ℕ) (lines : List Event) → Ready text l → Writes l.kept l.inputs l.firsts code lines (Err e) → NotPlayed text script (failure_of e)
-unplayed_so text script l No-memory code lines r h = tt
+unplayed_so text script l NoMemory code lines r h = tt
 unplayed_so text script l Kept code lines r h = absurd (omega (arith, r.taken.low, r.same_kept))

@@ -1,5 +1,5 @@
 -- A script played line by line: what was told so far, and what is still to be told.
-use Rattle.std.proofs.Common.{◌≡◌, ℕ, suc, ◌+◌, ◌^◌, ◌<◌, ◌≤◌, List, [], ◌∷◌, ◌++◌, map, length, get_or, drop, replicate, Some, None, Ok, Err, Option, Result, sym, refl, ap, ◌∙◌, ap₂, ⊎_elim, append_assoc, append-nil, arith}
+use Rattle.std.proofs.Common.{◌≡◌, ℕ, suc, ◌+◌, ◌^◌, ◌<◌, ◌≤◌, List, [], ◌∷◌, ◌++◌, map, length, get_or, drop, replicate, Some, None, Ok, Err, Option, Result, sym, ap, ◌∙◌, ap₂, ⊎_elim, append_assoc, append-nil, arith}
 use mathlib.Core.Path.{fun_ext}
 use Rattle.std.proofs.lemmas.List.{drop_more, drop_all, get_or-replicate, get_or_past, length-replicate}
 use Rattle.std.proofs.lemmas.Bool.{cases_lt}
@@ -17,8 +17,8 @@ use Rattle.controller.specs.Entries.{New}
 use Rattle.scripts.specs.declared.script.Event.{Event as Line}
 use Rattle.scripts.specs.Script.{Request, request}
 use Rattle.reports.specs.Reports.{Said}
-use Rattle.project.specs.Play.{Scene, opening, by_refusal, said_inputs, event_of, act, report, plays, taken, decisions, zip, tells}
-use Rattle.project.specs.Running.{scene_of, decision_of, Went, Goes, Told}
+use Rattle.project.specs.Play.{by_refusal, said_inputs, event_of, act, plays, taken, decisions, zip, tells}
+use Rattle.project.specs.Running.{scene_of, Went, Goes, Told}
 
 -- what lines tell after a history
 abbrev still : Project → List Event → (outside shown : List ℕ) → List Request → List Said

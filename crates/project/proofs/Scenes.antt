@@ -1,8 +1,8 @@
 -- A line that is taken, and one that is refused, make the scene that the story tells.
 use Rattle.std.proofs.Common.{◌≡◌, ℕ, List, [], ◌∷◌, Some, None, Option, sym, refl, ap, ◌∙◌, subst, ap₂}
 use Rattle.base.specs.Stores.{cells}
-use Rattle.controller.specs.World.{Project, Live, Event}
-use Rattle.controller.specs.Story.{Tale, Decision, tell, tale}
+use Rattle.controller.specs.World.{Project, Event}
+use Rattle.controller.specs.Story.{tell, tale}
 use Rattle.controller.specs.History.{after}
 use Rattle.controller.specs.Decided.{decide, decided}
 use Rattle.controller.specs.Memory.{live_in, state_in, StandsFor}

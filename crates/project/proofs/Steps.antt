@@ -4,15 +4,13 @@ use Rattle.std.proofs.lemmas.List.{length-take-le, length-replicate}
 use Rattle.base.specs.Stores.{cells, region}
 use Rattle.base.specs.Refusals.{number_of, place_of}
 use Rattle.base.specs.declared.Refusal.{Refusal}
-use Rattle.semantics.specs.Eval.{Program}
 use Rattle.retain.specs.Device.{cell_count}
-use Rattle.controller.specs.World.{Project, Event, start as started-up, scan as scanned-once, cut as cut_off, force as forced-to, free as freed, outputs}
+use Rattle.controller.specs.World.{Project, scan as scanned_once, cut as cut_off, force as forced_to, free as freed, outputs}
 use Rattle.controller.specs.Layout.{memory_length}
 use Rattle.controller.specs.Memory.{live_in, project, StandsFor}
-use Rattle.controller.specs.Requests.{start_refusal, force_refusal, free_refusal, scan_refusal, cut_refusal}
+use Rattle.controller.specs.Requests.{force_refusal, free_refusal, scan_refusal, cut_refusal}
 use Rattle.controller.specs.Entries.{EachMeaning, Follows, Started, Scanned, CutOff}
-use Rattle.scripts.specs.declared.script.Input.{Input}
-use Rattle.scripts.specs.Script.{Request, start, scan, cut, force, free, inputs_after}
+use Rattle.scripts.specs.Script.{start, scan, cut, force, free}
 use Rattle.reports.specs.declared.report.Setting.{Setting}
 use Rattle.reports.specs.Reports.{Said, started, scanned, refused}
 use Rattle.project.specs.Play.{line_refusal, values_from, changed_from}
@@ -51,7 +49,7 @@ module _ (kept : ℕ) (low : kept ≤ 64) (m : List ℕ) (size : length m ≡ me
         line_refused (project kept inputs firsts means) es (free point) outside shown m h m₁ outside shown refl (number_of e) (place_of e) (sym (free_why kept low m size point) ∙ why) same refl told tells
 
   module _ (tells : told ≡ []) (inputs firsts code outside shown : List ℕ) where
-    pub force_taken : (point number : ℕ) → force_refusal kept point number m ≡ None → ((p : Project) → Follows p (forced-to point number) m m₁) → Goes kept inputs firsts code (force point number) m outside shown m₁ outside shown told
+    pub force_taken : (point number : ℕ) → force_refusal kept point number m ≡ None → ((p : Project) → Follows p (forced_to point number) m m₁) → Goes kept inputs firsts code (force point number) m outside shown m₁ outside shown told
     force_taken point number why follows means right es few h =
         line_taken (project kept inputs firsts means) es (force point number) outside shown m h m₁ outside shown refl (sym (force_why kept low m size point number) ∙ why) ((follows (project kept inputs firsts means)).history es h) refl told tells
 
@@ -90,11 +88,11 @@ module _ (kept : ℕ) (low : kept ≤ 64) (m : List ℕ) (size : length m ≡ me
       scan_taken out₁ writes₁ n changed lamp each why copied items lit tells before named noted means right es few h =
           let p = project kept inputs firsts means in
           let done = each.right means right in
-          let stands : StandsFor p m₁ (scanned-once (cells outside) elapsed ∷ es) = done.follows.history es h in
-          let shows : cells out₁ ≡ outputs (live_in m₁) = done.history es h ∙ ap outputs (after_live p (scanned-once (cells outside) elapsed ∷ es) m₁ stands) in
+          let stands : StandsFor p m₁ (scanned_once (cells outside) elapsed ∷ es) = done.follows.history es h in
+          let shows : cells out₁ ≡ outputs (live_in m₁) = done.history es h ∙ ap outputs (after_live p (scanned_once (cells outside) elapsed ∷ es) m₁ stands) in
           line_taken p es (scan elapsed named) before shown m h m₁ outside shown₁ noted
           (sym (scan_why kept low m size inputs firsts outside i f o (stamp_low p es m h few) elapsed out writes a b named) ∙ why)
-          (subst (λ x. StandsFor p m₁ (scanned-once x elapsed ∷ es)) noted stands)
+          (subst (λ x. StandsFor p m₁ (scanned_once x elapsed ∷ es)) noted stands)
           (ap cells copied ∙ shows) told
           (tells ∙ ap₂ (λ x y. scanned x y ∷ []) (items ∙ ap (changed_from 0 64 (cells shown)) shows) (lit ∙ sym (ap₂ (λ x y. not x && y) (lamp_is m) (lamp_is m₁))))
 

@@ -1,5 +1,5 @@
 -- The controller refuses a line for the reason that the story gives: in a memory of the right length, with lists of the right length, and a stamp that can be raised.
-use Rattle.std.proofs.Common.{◌≡◌, ℕ, ◌^◌, ◌<◌, ◌≤◌, Bool, true, false, eqb, ltb, leb, List, length, get_or, Some, None, Option, refl, ap, ◌∙◌}
+use Rattle.std.proofs.Common.{◌≡◌, ℕ, ◌^◌, ◌<◌, ◌≤◌, Bool, true, false, eqb, leb, List, length, get_or, Some, None, Option, refl, ap, ◌∙◌}
 use Rattle.std.proofs.lemmas.Bool.{le-leb, lt-ltb, eq-eqb}
 use Rattle.base.specs.Refusals.{unless, or_else}
 use Rattle.base.proofs.Checks.{passes}
@@ -7,10 +7,10 @@ use Rattle.retain.specs.Device.{cell_count, stamp}
 use Rattle.retain.specs.Entry.{stamp_refusal}
 use Rattle.controller.specs.Layout.{memory_length}
 use Rattle.controller.specs.Memory.{live_in, device_in}
-use Rattle.controller.specs.Requests.{kept_refusal, length_refusal, power_refusal, start_refusal, point_refusal, force_refusal, free_refusal, lists_refusal, ready_refusal, run_refusal, scan_refusal, cut_refusal}
+use Rattle.controller.specs.Requests.{kept_refusal, length_refusal, start_refusal, point_refusal, force_refusal, free_refusal, lists_refusal, ready_refusal, run_refusal, scan_refusal, cut_refusal}
 use Rattle.controller.proofs.Passed.{then}
 use Rattle.scripts.specs.declared.script.Input.{Input}
-use Rattle.scripts.specs.Script.{Request, scan, cut, force, free}
+use Rattle.scripts.specs.Script.{scan, cut, force, free}
 use Rattle.project.specs.Play.{line_refusal}
 
 join : (b : Bool) (n k : ℕ) (x y : Option (ℕ × ℕ)) → or_else (unless b n k x) y ≡ unless b n k (or_else x y)

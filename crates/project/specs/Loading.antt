@@ -2,7 +2,7 @@
 use Rattle.std.specs.Prelude.{◌≡◌, ℕ, List, map, Ok, Err, vec_items, string_bytes, Result, Vec, String}
 use Rattle.std.specs.declared.alloc.Global.{Global}
 use Rattle.base.specs.declared.Refusal.{Refusal}
-use Rattle.base.specs.declared.Refusal.TheVariants.{Token as Bad-token, Program as No-program, Limit, Room, Length, Off, Time, Stamp, Point}
+use Rattle.base.specs.declared.Refusal.TheVariants.{Token as BadToken, Program as NoProgram, Limit, Room, Length, Off, Time, Stamp, Point}
 use Rattle.syntax.specs.Ast.{Stmt}
 use Rattle.semantics.specs.Eval.{meaning}
 use Rattle.controller.specs.World.{Project}
@@ -14,7 +14,7 @@ use Rattle.loading.specs.declared.load.Failure.{Failure}
 use Rattle.loading.specs.declared.load.Failure.TheVariants.{Memory, Header, Program, Script}
 pub use Rattle.loading.specs.Loading.{CutUp, ReadUp, Parsed, Taken, Passes, HeaderRefused, ProgramRefused, Declined, Ready, Loads, CutInto, Uncoded, CodedFor}
 use Rattle.project.specs.declared.run.RunError.{RunError}
-use Rattle.project.specs.declared.run.RunError.TheVariants.{Memory as No-memory, Kept}
+use Rattle.project.specs.declared.run.RunError.TheVariants.{Memory as NoMemory, Kept}
 use Rattle.project.specs.Play.{played}
 
 -- the project that a header and a program are
@@ -32,8 +32,8 @@ pub record Played (project script : List ℕ) (text : String Global) : Type 0 wh
 
 -- a script is refused at the first character that does not fit
 abbrev pub ScriptRefused : (script : List ℕ) → Refusal → Type 0
-ScriptRefused script (Bad-token p) = read_script script ≡ Err p
-ScriptRefused script (No-program p) = ⊥
+ScriptRefused script (BadToken p) = read_script script ≡ Err p
+ScriptRefused script (NoProgram p) = ⊥
 ScriptRefused script (Limit p) = ⊥
 ScriptRefused script (Room p) = ⊥
 ScriptRefused script (Length p) = ⊥
@@ -51,7 +51,7 @@ NotPlayed project script (Script e) = ((h : Plan) × (s : Stmt) × Taken project
 
 -- why events were not played, as a failure of the project
 abbrev pub failure_of : RunError → Failure
-failure_of No-memory = Memory
+failure_of NoMemory = Memory
 failure_of Kept = Header (Length 0)
 
 -- what `play` answers

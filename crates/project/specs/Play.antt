@@ -1,9 +1,9 @@
 -- A script played: what is told of each of its lines. It knows no code, no machine, no slots, no stamps and no memory layout. Assumes nothing: these are definitions.
-use Rattle.std.specs.Prelude.{ℕ, zero, suc, Bool, cond, not, ◌&&◌, List, [], ◌∷◌, ◌++◌, map, Some, None, Option, ◌==◌, nat_le}
+use Rattle.std.specs.Prelude.{ℕ, zero, suc, cond, not, ◌&&◌, List, [], ◌∷◌, ◌++◌, Some, None, Option, ◌==◌, nat_le}
 use Rattle.std.specs.List.{flat_map}
 use Rattle.base.specs.Stores.{Store}
 use Rattle.base.specs.Refusals.{unless}
-use Rattle.controller.specs.World.{Project, Live, Event, start as started-up, scan as scanned-once, cut as cut_off, force as forced-to, free as freed, outputs}
+use Rattle.controller.specs.World.{Project, Live, Event, start as started_up, scan as scanned_once, cut as cut_off, force as forced_to, free as freed, outputs}
 use Rattle.controller.specs.Story.{Tale, Decision, as_made, tell}
 use Rattle.controller.specs.History.{after}
 use Rattle.controller.specs.Decided.{decide}
@@ -44,10 +44,10 @@ said_inputs before (free point) = before
 
 -- what happens to the controller by a line that is taken, after what was said of the inputs before it
 abbrev pub event_of : Store → Request → Event
-event_of before start = started-up
-event_of before (scan elapsed inputs) = scanned-once (inputs_after before inputs) elapsed
+event_of before start = started_up
+event_of before (scan elapsed inputs) = scanned_once (inputs_after before inputs) elapsed
 event_of before (cut elapsed at junk inputs) = cut_off (inputs_after before inputs) elapsed at junk
-event_of before (force point number) = forced-to point number
+event_of before (force point number) = forced_to point number
 event_of before (free point) = freed point
 
 -- the variables i, i + 1, .., n of them, with their values

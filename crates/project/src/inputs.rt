@@ -6,7 +6,7 @@ ghost use Rattle.scripts.specs.Script.{inputs_after};
 use scripts::script::Input;
 
 /// Notes what a line says of the inputs; those that it does not name stay.
-pub(crate) fn note_inputs(outside: &mut [u16; 64], inputs: &[Input])
+pub fn note_inputs(outside: &mut [u16; 64], inputs: &[Input])
     ensures { cells outside.new ≡ inputs_after (cells outside.old) inputs.now }
 {
     for input in inputs {

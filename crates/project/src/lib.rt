@@ -1,9 +1,12 @@
 //! Projects and scripts, from text to text: loaded, played, listed, and messages for people.
+#![tactic(auto)]
+
 pub use listings::listing;
 pub use loading::load;
 pub use messages::message;
+pub use reports::report;
 
-mod inputs;
+pub mod inputs;
 pub mod play;
 pub mod run;
 mod settings;

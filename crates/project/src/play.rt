@@ -2,7 +2,7 @@
 ghost use Rattle.std.specs.Prelude.{◌≡◌};
 ghost use Rattle.project.specs.Loading.{EventsOf, failure_of, Plays};
 
-use crate::run::{RunError, play_events};
+use crate::run::{RunError, play_loaded};
 use base::Refusal;
 use lines::words::ReadError;
 use loading::load::{Failure, load};
@@ -10,7 +10,7 @@ use scripts::script::{Event, read_script};
 use std::alloc::Global;
 
 /// The events of a script's text.
-fn events_of(heap: Global, script: &str) -> Result<Vec<Event>, Failure>
+pub fn events_of(heap: Global, script: &str) -> Result<Vec<Event>, Failure>
     ensures { EventsOf script.now result }
 {
     match read_script(heap, script) {
@@ -36,7 +36,7 @@ pub fn play(heap: Global, project: &str, script: &str) -> Result<String, Failure
 {
     let loaded = load(heap, project)?;
     let events = events_of(heap, script)?;
-    match play_events(heap, &loaded, events.as_slice()) {
+    match play_loaded(heap, &loaded, events.as_slice()) {
         Ok(text) => Ok(text),
         Err(error) => Err(failure_of(error)),
     }

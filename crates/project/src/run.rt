@@ -1,10 +1,10 @@
 //! Events played through the controller's entries, one after another.
 ghost use Rattle.std.specs.Prelude.{◌≡◌, ◌^◌, ◌<◌, ◌≤◌, not, ◌&&◌, map, length, IfOk, ◌==◌, slice_index};
 ghost use Rattle.controller.specs.Layout.{memory_length};
-ghost use Rattle.scripts.specs.Script.{request, start as start-line, scan as scan-line, cut as cut_line, force as force-line, free as free-line};
+ghost use Rattle.scripts.specs.Script.{request, start as start_line, scan as scan_line, cut as cut_line, force as force_line, free as free_line};
 ghost use Rattle.reports.specs.Reports.{said};
 ghost use Rattle.project.specs.declared.run.Panel.{Panel};
-ghost use Rattle.project.specs.Running.{Moves, Told, Runs, Writes};
+ghost use Rattle.project.specs.Running.{Moves, Told, HasParts, Runs, Writes};
 ghost use Rattle.std.specs.Option.{option_to_list};
 
 use crate::inputs::note_inputs;
@@ -66,7 +66,7 @@ fn play_start(
     panel: &mut Panel,
 ) -> Result<Option<Report>, AllocError>
     requires { (project.now.kept ≤ 64) × (length memory.old ≡ memory_length project.now.kept) }
-    ensures { IfOk result (λ o. Moves project.now start-line memory.old panel.old memory.new panel.new (map said (option_to_list o))) }
+    ensures { IfOk result (λ o. Moves project.now start_line memory.old panel.old memory.new panel.new (map said (option_to_list o))) }
 {
     if let Err(refusal) = start(project.kept, &project.firsts, memory) {
         return Ok(Some(refused(refusal)));
@@ -87,7 +87,7 @@ fn play_scan(
     panel: &mut Panel,
 ) -> Result<Option<Report>, AllocError>
     requires { (project.now.kept ≤ 64) × (length memory.old ≡ memory_length project.now.kept) }
-    ensures { IfOk result (λ o. Moves project.now (scan-line elapsed named.now) memory.old panel.old memory.new panel.new (map said (option_to_list o))) }
+    ensures { IfOk result (λ o. Moves project.now (scan_line elapsed named.now) memory.old panel.old memory.new panel.new (map said (option_to_list o))) }
 {
     note_inputs(&mut panel.outside, named);
     let was_lit = lamp_lit(memory);
@@ -148,7 +148,7 @@ fn play_cut(
 /// A point is forced.
 fn play_force(project: &Loaded, point: u64, number: u64, memory: &mut [u64]) -> Option<Report>
     requires { (project.now.kept ≤ 64) × (length memory.old ≡ memory_length project.now.kept) }
-    ensures { (panel : Panel) → Moves project.now (force-line point number) memory.old panel memory.new panel (map said (option_to_list result)) }
+    ensures { (panel : Panel) → Moves project.now (force_line point number) memory.old panel memory.new panel (map said (option_to_list result)) }
 {
     match force(project.kept, point, number, memory) {
         Err(refusal) => Some(refused(refusal)),
@@ -159,7 +159,7 @@ fn play_force(project: &Loaded, point: u64, number: u64, memory: &mut [u64]) -> 
 /// A point is freed.
 fn play_free(project: &Loaded, point: u64, memory: &mut [u64]) -> Option<Report>
     requires { (project.now.kept ≤ 64) × (length memory.old ≡ memory_length project.now.kept) }
-    ensures { (panel : Panel) → Moves project.now (free-line point) memory.old panel memory.new panel (map said (option_to_list result)) }
+    ensures { (panel : Panel) → Moves project.now (free_line point) memory.old panel memory.new panel (map said (option_to_list result)) }
 {
     match free(project.kept, point, memory) {
         Err(refusal) => Some(refused(refusal)),
@@ -231,8 +231,8 @@ fn play_all(
     Ok(reports)
 }
 
-/// Plays events through a controller of its own: what is reported of them, in their order.
-fn run_events(heap: Global, project: &Loaded, events: &[Event]) -> Result<Vec<Report>, RunError>
+/// Plays the events of a project that is loaded: what is reported of them, in their order.
+fn run_loaded(heap: Global, project: &Loaded, events: &[Event]) -> Result<Vec<Report>, RunError>
     ensures { Runs project.now.kept project.now.inputs project.now.firsts project.now.code.items events.now result }
 {
     if project.kept > VARIABLES as u64 {
@@ -249,13 +249,68 @@ fn run_events(heap: Global, project: &Loaded, events: &[Event]) -> Result<Vec<Re
     }
 }
 
-/// Plays events through a controller of its own, and writes what is reported of them, a line each.
-pub fn play_events(heap: Global, project: &Loaded, events: &[Event]) -> Result<String, RunError>
+/// Plays the events of a project that is loaded, and writes what is reported of them, a line each.
+pub(crate) fn play_loaded(
+    heap: Global,
+    project: &Loaded,
+    events: &[Event],
+) -> Result<String, RunError>
     ensures { Writes project.now.kept project.now.inputs project.now.firsts project.now.code.items events.now result }
 {
-    let reports = run_events(heap, project, events)?;
+    let reports = run_loaded(heap, project, events)?;
     match render(heap, reports.as_slice()) {
         Ok(text) => Ok(text),
         Err(_) => Err(RunError::Memory),
     }
+}
+
+/// A project of these parts.
+fn project_of(
+    heap: Global,
+    kept: u64,
+    inputs: &[u8; 64],
+    firsts: &[u16; 64],
+    code: &[u16],
+) -> Result<Loaded, RunError>
+    ensures { HasParts kept inputs.now firsts.now code.now result }
+{
+    match Vec::from_slice(heap, code) {
+        Ok(code) => Ok(Loaded {
+            kept,
+            inputs: *inputs,
+            firsts: *firsts,
+            code,
+        }),
+        Err(_) => Err(RunError::Memory),
+    }
+}
+
+/// Plays events through a controller of its own: what is reported of them, in their order.
+pub fn run_events(
+    heap: Global,
+    kept: u64,
+    inputs: &[u8; 64],
+    firsts: &[u16; 64],
+    code: &[u16],
+    events: &[Event],
+) -> Result<Vec<Report>, RunError>
+    ensures { Runs kept inputs.now firsts.now code.now events.now result }
+{
+    let project = project_of(heap, kept, inputs, firsts, code)?;
+    run_loaded(heap, &project, events)
+}
+
+/// Plays events through a controller of its own, and writes what is reported of them, a line each.
+pub fn play_events(
+    heap: Global,
+    kept: u64,
+    inputs: &[u8; 64],
+    firsts: &[u16; 64],
+    code: &[u16],
+    events: &[Event],
+) -> Result<String, RunError>
+    ensures { Writes kept inputs.now firsts.now code.now events.now result }
+{
+    let project = project_of(heap, kept, inputs, firsts, code)?;
+    play_loaded(heap, &project, events)
 }

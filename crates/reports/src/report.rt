@@ -1,7 +1,7 @@
 //! What a script's events led to, and its text.
 ghost use Rattle.std.specs.Prelude.{◌≡◌, [], ◌∷◌, ◌++◌, IfOk, Some, string_bytes, codes, decimal, OnOk};
 ghost use Rattle.base.specs.Refusals.{number_of, place_of};
-ghost use Rattle.reports.specs.Reports.{Said, said, refused as refused-at, setting_text, spaced, lamp_text, line_of};
+ghost use Rattle.reports.specs.Reports.{Said, said, refused as refused_at, setting_text, spaced, lamp_text, line_of};
 ghost use Rattle.std.specs.List.{flat_map};
 
 use base::Refusal;
@@ -38,7 +38,7 @@ pub enum Report {
 
 /// What is told of a refusal.
 pub fn refused(refusal: Refusal) -> Report
-    ensures { said result ≡ refused-at (number_of refusal) (place_of refusal) }
+    ensures { said result ≡ refused_at (number_of refusal) (place_of refusal) }
 {
     Report::Refused {
         number: refusal.number(),

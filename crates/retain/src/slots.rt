@@ -2,7 +2,7 @@
 ghost use Rattle.std.specs.Prelude.{◌≡◌, ◌≤◌, not, length};
 ghost use Rattle.base.specs.Stores.{cells};
 ghost use Rattle.base.specs.Refusals.{Answered};
-ghost use Rattle.retain.specs.Device.{cell_count, slot_base, valid, current, stamp as stamp-of};
+ghost use Rattle.retain.specs.Device.{cell_count, slot_base, valid, current, stamp as stamp_of};
 ghost use Rattle.retain.specs.Entry.{upper, stamp_refusal, Next};
 
 use base::Refusal;
@@ -71,7 +71,7 @@ pub(crate) fn current_slot(kept: usize, device: &[u64]) -> Slot
 /// The stamp of the current slot.
 fn current_stamp(kept: usize, device: &[u64], slot: Slot) -> u64
     requires { (kept ≤ 64) × ((length device.now ≡ cell_count kept) × (upper slot ≡ current kept (cells device.now))) }
-    ensures { result ≡ stamp-of kept (cells device.now) }
+    ensures { result ≡ stamp_of kept (cells device.now) }
 {
     device[slot.base(kept)]
 }
@@ -79,7 +79,7 @@ fn current_stamp(kept: usize, device: &[u64], slot: Slot) -> u64
 /// The other slot than the current one, and the next stamp.
 pub(crate) fn next_target(kept: usize, device: &[u64]) -> Result<Target, Refusal>
     requires { (kept ≤ 64) × (length device.now ≡ cell_count kept) }
-    ensures { Answered result (stamp_refusal (stamp-of kept (cells device.now))) (λ t. Next kept (cells device.now) t) (Unit {0}) }
+    ensures { Answered result (stamp_refusal (stamp_of kept (cells device.now))) (λ t. Next kept (cells device.now) t) (Unit {0}) }
 {
     let slot = current_slot(kept, device);
     let stamp = current_stamp(kept, device, slot);

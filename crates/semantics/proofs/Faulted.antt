@@ -4,7 +4,7 @@ use mathlib.Core.Path.{fun_ext}
 use Rattle.syntax.specs.Ast.{Stmt, skip, assign, seq, branch, repeat, delay}
 use Rattle.base.specs.Stores.{Store}
 use Rattle.semantics.specs.Eval.{eval, faults, Values, noted, iterate, exec}
-use Rattle.semantics.specs.Laws.{FirstStays, Goes_on}
+use Rattle.semantics.specs.Laws.{FirstStays, GoesOn}
 use Rattle.semantics.proofs.Faults.{first_stays}
 
 -- f leaves a fault as it is
@@ -78,5 +78,5 @@ exec_blind elapsed o (branch e s t) q r p =
 exec_blind elapsed o (repeat n s) q r p = blind_iterate n _ (exec_blind elapsed o s) q r p
 exec_blind elapsed o (delay out counter e preset) q r p = rw p
 
-pub goes_on : Goes_on
+pub goes_on : GoesOn
 goes_on elapsed o s q r e i = ap (λ st. st i) (exec_blind elapsed o s q r (fun_ext e))

@@ -8,7 +8,7 @@ abbrev pub FirstStays : Type 0
 FirstStays = (elapsed o : ℕ) (s : Stmt) (r : Values) → 0 < r.fault → (exec elapsed o s r).fault ≡ r.fault
 
 -- a fault changes nothing in what is done
-abbrev pub Goes_on : Type 0
-Goes_on =
+abbrev pub GoesOn : Type 0
+GoesOn =
     (elapsed o : ℕ) (s : Stmt) (q r : Values) → ((i : ℕ) → q.store i ≡ r.store i) →
     (i : ℕ) → (exec elapsed o s q).store i ≡ (exec elapsed o s r).store i

@@ -5,11 +5,12 @@ ghost use Rattle.std.specs.Prelude.{◌≡◌, min};
 ghost use Rattle.syntax.specs.Ast.{Stmt};
 ghost use Rattle.syntax.specs.Tree.{HoldsStmt};
 ghost use Rattle.semantics.specs.Evaluated.{Evaluates};
-ghost use Rattle.semantics.specs.Laws.{FirstStays, Goes_on};
+ghost use Rattle.semantics.specs.Laws.{FirstStays, GoesOn};
 ghost use Rattle.semantics.specs.Measured.{Measured};
 ghost use Rattle.semantics.specs.Needs.{stmt_need};
 
 use base::Refusal;
+pub use base::words;
 pub use limits::{Needs, check_limits};
 use syntax::Tree;
 
@@ -46,7 +47,7 @@ pub fn evaluate(tree: &Tree, elapsed: u64, vars: &mut [u64], fault: &mut u64) ->
 /// The first fault stays, and stops nothing.
 pub fn faults_are_noted() -> u8
     ensures stays { FirstStays }
-    ensures onward { Goes_on }
+    ensures onward { GoesOn }
 {
     0
 }

@@ -10,7 +10,7 @@ use Rattle.syntax.specs.Tree.{Holds}
 use Rattle.syntax.specs.Frames.{ExprAt, frame, Topped, Stacked, Wrote, Same, Operands, Climbed, Inverted}
 use Rattle.syntax.specs.declared.frame.Frame.{Frame}
 use Rattle.syntax.specs.declared.frame.Frame.TheVariants.{Bracket, RightOf, Not, Done, ThenIn, ElseIn, RepeatIn, AssignTo, ConditionIn, DelayIn}
-use Rattle.syntax.specs.declared.node.Node.TheVariants.{Not as Not-node, Binary}
+use Rattle.syntax.specs.declared.node.Node.TheVariants.{Not as NotNode, Binary}
 use Rattle.syntax.proofs.Cells.{expr_kept, stacked_same}
 
 -- frames are told apart by numbers
@@ -106,7 +106,7 @@ unfolding inverts
 inverts_none m s n d x c z q zero p e w t = record { frames = subst (λ (i : ℕ). Stacked m n s i p) (omega (arith, w.count)) w.frames; tree = t }
 inverts_none m s n d x c z q (suc k) p e w t = absurd (q (w.nots c (omega (arith, w.count)) (omega arith)))
 
-pub inverts_on : (m m₁ m' : List ℕ) (s : List Frame) (n d x n' d' x' c : ℕ) → d ≡ c + 1 → frame s c ≡ Not → Wrote m m₁ n (Not-node x) → Inverted m₁ s (n + 1) c n m' n' d' x' → Inverted m s n d x m' n' d' x'
+pub inverts_on : (m m₁ m' : List ℕ) (s : List Frame) (n d x n' d' x' c : ℕ) → d ≡ c + 1 → frame s c ≡ Not → Wrote m m₁ n (NotNode x) → Inverted m₁ s (n + 1) c n m' n' d' x' → Inverted m s n d x m' n' d' x'
 unfolding inverts Holds
 inverts_on m m₁ m' s n d x n' d' x' c z q w r zero p e a t = absurd (top_not p m s n a.base c a.frames (omega (arith, a.count)) q)
 inverts_on m m₁ m' s n d x n' d' x' c z q w r (suc k) p e a t =

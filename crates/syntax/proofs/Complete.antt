@@ -6,7 +6,7 @@ use Rattle.lexer.specs.declared.Mark.{Mark}
 use Rattle.lexer.specs.declared.Token.{Token}
 use Rattle.lexer.specs.declared.Token.TheVariants.{Operator as operator}
 use Rattle.lexer.specs.Pairs.{code}
-use Rattle.lexer.specs.declared.Mark.TheVariants.{Close as close-mark, Semicolon as semicolon, Then as then-word, Comma as comma}
+use Rattle.lexer.specs.declared.Mark.TheVariants.{Close as close_mark, Semicolon as semicolon, Then as then_word, Comma as comma}
 use Rattle.syntax.specs.Grammar.{strength, ReadsExpr, a_number, a_name, a_not, in_brackets, looser, an_operation, Reads, no_more, an_assign, a_branch, a_repeat, a_delay}
 use Rattle.syntax.specs.Parser.{Above, Outer, top, then_in, else_in, repeat_in, assign_to, condition_in, delay_in, Pending, whole, right_of, bracket, State, statement, operand, operated, closed, inverts, climb, only, finish, on_else, on_end, begin, prefix, step, at_top, whole_program, start, parse}
 use Rattle.syntax.specs.Theorems.{Complete, OneTree}
@@ -47,7 +47,7 @@ expr (a_name i) k p o h = record { rest = p; last = inverts k (var i); steps = m
 expr (a_not ts e r) k p o h = let g = expr r (suc k) p tt h in record { rest = g.rest; last = g.last; steps = more refl g.steps; joins = g.joins }
 expr (in_brackets ts e r) k p o h =
     let g = expr r 0 (bracket k p) refl tt in
-    record { rest = p; last = inverts k e; steps = more refl (onward g.steps (more (finished g close-mark) here)); joins = refl }
+    record { rest = p; last = inverts k e; steps = more refl (onward g.steps (more (finished g close_mark) here)); joins = refl }
 expr (looser l ts e r) k p o h =
     let g = expr r k p (okay l k o) (above_less p l h) in
     record {
@@ -93,7 +93,7 @@ stmts (an_assign i ts us e s re rs) acc k =
     more refl (more refl (onward g.steps (more (finished g semicolon) (stmts rs (assign i e ∷ acc) k))))
 stmts (a_branch ts xs ys us e s t u re rs rt ru) acc k =
     let g = expr re 0 (whole (condition_in (acc, k))) refl tt in
-    more refl (onward g.steps (more (finished g then-word) (onward (stmts rs [] (then_in e acc k))
+    more refl (onward g.steps (more (finished g then_word) (onward (stmts rs [] (then_in e acc k))
     (more (ap {B = Option State} (λ (x : Stmt). some (statement ([], else_in e x acc k))) (closed_items rs [])) (onward (stmts rt [] (else_in e s acc k))
     (more (ap {B = Option State} (λ (x : Stmt). some (State.ended (branch e s x) (acc, k))) (closed_items rt [])) (more refl (stmts ru (branch e s t ∷ acc) k))))))))
 stmts (a_repeat n xs us s u rs ru) acc k =

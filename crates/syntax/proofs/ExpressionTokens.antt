@@ -4,7 +4,7 @@ use mathlib.Core.Option.{Option, none}
 use Rattle.std.proofs.str.Laws.{order}
 use Rattle.base.specs.declared.Op.{Op}
 use Rattle.lexer.specs.declared.Mark.{Mark}
-use Rattle.lexer.specs.declared.Mark.TheVariants.{Not as not-word, Open as open-mark, Close as close-mark, Assign as assign-mark, Semicolon as semicolon, Comma as comma, If as if_word, Then as then-word, Else as else-word, Repeat as repeat-word, Times as times-word, Delay as delay-word, End as end-word}
+use Rattle.lexer.specs.declared.Mark.TheVariants.{Not as not_word, Open as open_mark, Close as close_mark, Assign as assign_mark, Semicolon as semicolon, Comma as comma, If as if_word, Then as then_word, Else as else_word, Repeat as repeat_word, Times as times_word, Delay as delay_word, End as end_word}
 use Rattle.lexer.specs.declared.Token.{Token}
 use Rattle.lexer.specs.declared.Token.TheVariants.{Number as number, Name as name, Operator as operator, Mark as mark}
 use Rattle.syntax.specs.Ast.{Expr, lit, var, assign}
@@ -62,7 +62,7 @@ one_not_more s c d h a j lo hi =
     (order j d)
 
 module _ (x : Mark) (s : List Frame) (top : Top) where
-  pub a_not_mark : (r : Top) → x ≡ not-word → top.depth < length s → r.used ≡ top.used → r.depth ≡ top.depth + 1 → Prefixes x s top (set s top.depth Not) (Operand r)
+  pub a_not_mark : (r : Top) → x ≡ not_word → top.depth < length s → r.used ≡ top.used → r.depth ≡ top.depth + 1 → Prefixes x s top (set s top.depth Not) (Operand r)
   unfolding prefix
   a_not_mark r z h u q m k p a =
       let c = a.count in
@@ -78,7 +78,7 @@ module _ (x : Mark) (s : List Frame) (top : Top) where
         }),
       )
 
-  pub an_open_mark : (r : Top) → x ≡ open-mark → top.depth < length s → r.used ≡ top.used → r.depth ≡ top.depth + 1 → Prefixes x s top (set s top.depth Bracket) (Operand r)
+  pub an_open_mark : (r : Top) → x ≡ open_mark → top.depth < length s → r.used ≡ top.used → r.depth ≡ top.depth + 1 → Prefixes x s top (set s top.depth Bracket) (Operand r)
   unfolding prefix Stacked
   an_open_mark r z h u q m k p a =
       let c = a.count in
@@ -101,24 +101,24 @@ module _ (x : Mark) (s : List Frame) (top : Top) where
         }),
       )
 
-  pub no_prefix : (x ≡ not-word → ⊥) → (x ≡ open-mark → ⊥) → Prefixes x s top s Refused
+  pub no_prefix : (x ≡ not_word → ⊥) → (x ≡ open_mark → ⊥) → Prefixes x s top s Refused
   unfolding prefix
   no_prefix h₀ h₁ m k p a = refuse m s _ (none_of x h₀ h₁)
     where
-      none_of : (y : Mark) → (y ≡ not-word → ⊥) → (y ≡ open-mark → ⊥) → prefix y k p ≡ none
-      none_of not-word a b = absurd (a refl)
-      none_of open-mark a b = absurd (b refl)
-      none_of close-mark a b = refl
-      none_of assign-mark a b = refl
+      none_of : (y : Mark) → (y ≡ not_word → ⊥) → (y ≡ open_mark → ⊥) → prefix y k p ≡ none
+      none_of not_word a b = absurd (a refl)
+      none_of open_mark a b = absurd (b refl)
+      none_of close_mark a b = refl
+      none_of assign_mark a b = refl
       none_of semicolon a b = refl
       none_of comma a b = refl
       none_of if_word a b = refl
-      none_of then-word a b = refl
-      none_of else-word a b = refl
-      none_of repeat-word a b = refl
-      none_of times-word a b = refl
-      none_of delay-word a b = refl
-      none_of end-word a b = refl
+      none_of then_word a b = refl
+      none_of else_word a b = refl
+      none_of repeat_word a b = refl
+      none_of times_word a b = refl
+      none_of delay_word a b = refl
+      none_of end_word a b = refl
 
 -- after an operand
 pub no_leaf : (t : Token) (m : List ℕ) (s : List Frame) (top : Top) → ((o : Op) → t ≡ operator o → ⊥) → ((x : Mark) → t ≡ mark x → ⊥) → Read t m s (Operated top) m s Refused
@@ -175,9 +175,9 @@ module _ (x : Mark) (m : List ℕ) (s : List Frame) (top : Top) (c : ℕ) (z : t
   pub not_finished : same_mark (closer (frame s c)) x ≡ false → Finishes x m s top m s Refused
   unfolding finish Stacked
   not_finished h (whole (assign_to i b)) e a o = refuse m s _ (only_not semicolon x _ (called_for _ (top_goal c o.frames z) h))
-  not_finished h (whole (condition_in b)) e a o = refuse m s _ (only_not then-word x _ (called_for _ (top_goal c o.frames z) h))
+  not_finished h (whole (condition_in b)) e a o = refuse m s _ (only_not then_word x _ (called_for _ (top_goal c o.frames z) h))
   not_finished h (whole (delay_in i j b)) e a o = refuse m s _ (only_not comma x _ (called_for _ (top_goal c o.frames z) h))
-  not_finished h (bracket k p) e a o = refuse m s _ (only_not close-mark x _ (called_for _ (top_bracket k p m s top.used top.depth c o.frames z) h))
+  not_finished h (bracket k p) e a o = refuse m s _ (only_not close_mark x _ (called_for _ (top_bracket k p m s top.used top.depth c o.frames z) h))
   not_finished h (right_of u y p) e a o = absurd (omega (arith, strength_4 u))
 
   -- a frame that no mark ends
@@ -196,7 +196,7 @@ module _ (x : Mark) (m : List ℕ) (s : List Frame) (top : Top) (c : ℕ) (z : t
   closes_bracket m' r k y i (bracket j q) e a o =
       let w = o.frames in
       let here : c ≡ w.0 + j = omega (arith, w.1) in
-      reach m' s (Operated r) _ (operated q (inverts j e)) (only_is close-mark x _ (called_for Bracket k y))
+      reach m' s (Operated r) _ (operated q (inverts j e)) (only_is close_mark x _ (called_for Bracket k y))
       (q, inverts j e, refl, i j q e (record { base = w.0; count = here; nots = λ y lo hi. w.3 y lo (omega arith); frames = w.4 }) o.tree)
   closes_bracket m' r k y i (right_of u w p) e a o = absurd (omega (arith, strength_4 u))
 
@@ -227,7 +227,7 @@ module _ (x : Mark) (m : List ℕ) (s : List Frame) (top : Top) (c : ℕ) (z : t
       let f = ThenIn top.last in
       let n = top.used in
       let l = blocked_same m m s (set s c f) n n (untouched n m) (omega arith) b c (frames_below s c f) (block_at o.frames) in
-      reach m (set s c f) (Statement top) _ (statement ([], then_in e b.0 b.1)) (only_is then-word x _ (called_for ConditionIn k y))
+      reach m (set s c f) (Statement top) _ (statement ([], then_in e b.0 b.1)) (only_is then_word x _ (called_for ConditionIn k y))
       (([], then_in e b.0 b.1), refl, record { base = top.depth; rows = refl; outer = (c, l.base, top.last, omega arith, frame_new s c f h, l.rows, l.outer, o.tree) })
   branches k y h (whole (assign_to i b)) e a o = absurd (omega (arith, ap sort k, ap sort (top_goal c o.frames z)))
   branches k y h (whole (delay_in i j b)) e a o = absurd (omega (arith, ap sort k, ap sort (top_goal c o.frames z)))

@@ -8,7 +8,7 @@ use Rattle.lexer.specs.declared.Mark.{Mark}
 use Rattle.lexer.specs.declared.Token.{Token}
 use Rattle.lexer.specs.declared.Token.TheVariants.{Number as number, Name as name, Mark as mark}
 use Rattle.lexer.specs.Pairs.{code}
-use Rattle.lexer.specs.declared.Mark.TheVariants.{Close as close-mark, Assign as assign-mark, Semicolon as semicolon, Comma as comma, Then as then-word, Else as else-word, Times as times-word, End as end-word}
+use Rattle.lexer.specs.declared.Mark.TheVariants.{Close as close_mark, Assign as assign_mark, Semicolon as semicolon, Comma as comma, Then as then_word, Else as else_word, Times as times_word, End as end_word}
 use Rattle.syntax.specs.Parser.{Outer, top, then_in, else_in, repeat_in, Block, assign_to, condition_in, delay_in, Pending, whole, right_of, bracket, State, statement, name_read, repeat_read, rounds_read, delay_read, out_read, out_comma, counter_read, length_next, ended, operand, operated, closed, inverts, only, finish, on_else, on_end, begin, step, at_top, whole_program, start, Parsed, accepted, refused, run, parse}
 use Rattle.syntax.specs.Grammar.{Reads}
 use Rattle.syntax.specs.Theorems.{Viable, Placed, RightPlace, OnePlace}
@@ -28,9 +28,9 @@ via t q e = record { tokens = t ∷ e.tokens; acc = e.acc; steps = more q e.step
 ends_block : (k : Outer) (acc : List Stmt) → Ends (statement (acc, k))
 unfolding step begin on_else on_end only code
 ends_block top acc = record { tokens = []; acc = acc; steps = here }
-ends_block (then_in e ss k) acc = via (mark else-word) refl (via (mark end-word) refl (via (mark semicolon) refl (ends_block k _)))
-ends_block (else_in e s ss k) acc = via (mark end-word) refl (via (mark semicolon) refl (ends_block k _))
-ends_block (repeat_in n ss k) acc = via (mark end-word) refl (via (mark semicolon) refl (ends_block k _))
+ends_block (then_in e ss k) acc = via (mark else_word) refl (via (mark end_word) refl (via (mark semicolon) refl (ends_block k _)))
+ends_block (else_in e s ss k) acc = via (mark end_word) refl (via (mark semicolon) refl (ends_block k _))
+ends_block (repeat_in n ss k) acc = via (mark end_word) refl (via (mark semicolon) refl (ends_block k _))
 
 ends_statement : (s : Stmt) (b : Block) → Ends (ended s b)
 unfolding step only code
@@ -46,9 +46,9 @@ record Marked (p : Pending) (e : Expr) : Type 0 where
 ends_operated : (p : Pending) (e : Expr) → Marked p e
 unfolding finish only code step
 ends_operated (whole (assign_to i b)) e = record { first = semicolon; then' = _; steps = refl; ends = ends_block b.1 (assign i e ∷ b.0) }
-ends_operated (whole (condition_in b)) e = record { first = then-word; then' = _; steps = refl; ends = ends_block (then_in e b.0 b.1) [] }
+ends_operated (whole (condition_in b)) e = record { first = then_word; then' = _; steps = refl; ends = ends_block (then_in e b.0 b.1) [] }
 ends_operated (whole (delay_in o p b)) e = record { first = comma; then' = length_next o p e b; steps = refl; ends = via (number 0) refl (ends_statement (delay o p e 0) b) }
-ends_operated (bracket k p) e = let m = ends_operated p (inverts k e) in record { first = close-mark; then' = operated p (inverts k e); steps = refl; ends = via (mark m.first) m.steps m.ends }
+ends_operated (bracket k p) e = let m = ends_operated p (inverts k e) in record { first = close_mark; then' = operated p (inverts k e); steps = refl; ends = via (mark m.first) m.steps m.ends }
 ends_operated (right_of o a p) e = let m = ends_operated p (binary o a e) in record { first = m.first; then' = m.then'; steps = m.steps; ends = m.ends }
 
 ends_operand : (k : ℕ) (p : Pending) → Ends (operand k p)
@@ -58,9 +58,9 @@ ends_operand k p = let m = ends_operated p (inverts k (lit 0)) in via (number 0)
 ends : (s : State) → Ends s
 unfolding step only code
 ends (statement b) = ends_block b.1 b.0
-ends (name_read i b) = via (mark assign-mark) refl (ends_operand 0 _)
-ends (repeat_read b) = via (number 0) refl (via (mark times-word) refl (ends_block _ _))
-ends (rounds_read n b) = via (mark times-word) refl (ends_block _ _)
+ends (name_read i b) = via (mark assign_mark) refl (ends_operand 0 _)
+ends (repeat_read b) = via (number 0) refl (via (mark times_word) refl (ends_block _ _))
+ends (rounds_read n b) = via (mark times_word) refl (ends_block _ _)
 ends (delay_read b) = via (name 0) refl (via (mark comma) refl (via (name 0) refl (via (mark comma) refl (ends_operand 0 _))))
 ends (out_read i b) = via (mark comma) refl (via (name 0) refl (via (mark comma) refl (ends_operand 0 _)))
 ends (out_comma i b) = via (name 0) refl (via (mark comma) refl (ends_operand 0 _))

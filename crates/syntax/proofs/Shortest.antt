@@ -4,7 +4,7 @@ use Rattle.base.specs.declared.Op.{Op}
 use Rattle.syntax.specs.Ast.{Expr, lit, var, invert, binary, Stmt, assign, seq, branch, repeat, delay}
 use Rattle.lexer.specs.declared.Token.{Token}
 use Rattle.lexer.specs.declared.Token.TheVariants.{Number as number, Name as name, Operator as operator, Mark as mark}
-use Rattle.lexer.specs.declared.Mark.TheVariants.{Not as not-word, Open as open-mark, Close as close-mark, Assign as assign-mark, Semicolon as semicolon, Comma as comma, If as if_word, Then as then-word, Else as else-word, Repeat as repeat-word, Times as times-word, Delay as delay-word, End as end-word}
+use Rattle.lexer.specs.declared.Mark.TheVariants.{Not as not_word, Open as open_mark, Close as close_mark, Assign as assign_mark, Semicolon as semicolon, Comma as comma, If as if_word, Then as then_word, Else as else_word, Repeat as repeat_word, Times as times_word, Delay as delay_word, End as end_word}
 use Rattle.syntax.specs.Grammar.{strength, ReadsExpr, a_number, a_name, a_not, in_brackets, looser, an_operation, Reads, no_more}
 use Rattle.syntax.specs.Grammar as grammar
 use Rattle.syntax.specs.Printer.{bracketed, print_expr, print, Shortest}
@@ -48,32 +48,32 @@ shortest_expr (an_operation o ts us a b ra rb) m h =
     rw (outermost o a b m h, middle, middle) (omega (arith, x, y))
 
 -- the lengths of statements
-assign_length : (i : ℕ) (ts us : List Token) → length (name i ∷ (mark assign-mark ∷ (ts ++ (mark semicolon ∷ us)))) ≡ length ts + length us + 3
+assign_length : (i : ℕ) (ts us : List Token) → length (name i ∷ (mark assign_mark ∷ (ts ++ (mark semicolon ∷ us)))) ≡ length ts + length us + 3
 assign_length i ts us = simp length-append (omega arith)
 
-branch_length : (ts xs ys us : List Token) → length (mark if_word ∷ (ts ++ (mark then-word ∷ (xs ++ (mark else-word ∷ (ys ++ (mark end-word ∷ (mark semicolon ∷ us)))))))) ≡ length ts + length xs + length ys + length us + 5
+branch_length : (ts xs ys us : List Token) → length (mark if_word ∷ (ts ++ (mark then_word ∷ (xs ++ (mark else_word ∷ (ys ++ (mark end_word ∷ (mark semicolon ∷ us)))))))) ≡ length ts + length xs + length ys + length us + 5
 branch_length ts xs ys us = simp length-append (omega arith)
 
-repeat_length : (n : ℕ) (xs us : List Token) → length (mark repeat-word ∷ (number n ∷ (mark times-word ∷ (xs ++ (mark end-word ∷ (mark semicolon ∷ us)))))) ≡ length xs + length us + 5
+repeat_length : (n : ℕ) (xs us : List Token) → length (mark repeat_word ∷ (number n ∷ (mark times_word ∷ (xs ++ (mark end_word ∷ (mark semicolon ∷ us)))))) ≡ length xs + length us + 5
 repeat_length n xs us = simp length-append (omega arith)
 
-delay_length : (o p n : ℕ) (ts us : List Token) → length (mark delay-word ∷ (name o ∷ (mark comma ∷ (name p ∷ (mark comma ∷ (ts ++ (mark comma ∷ (number n ∷ (mark semicolon ∷ us))))))))) ≡ length ts + length us + 8
+delay_length : (o p n : ℕ) (ts us : List Token) → length (mark delay_word ∷ (name o ∷ (mark comma ∷ (name p ∷ (mark comma ∷ (ts ++ (mark comma ∷ (number n ∷ (mark semicolon ∷ us))))))))) ≡ length ts + length us + 8
 delay_length o p n ts us = simp length-append (omega arith)
 
 -- the printed statements before others
-print_assign : (i : ℕ) (e : Expr) (s : Stmt) → print (seq (assign i e) s) ≡ name i ∷ (mark assign-mark ∷ (print_expr 5 e ++ (mark semicolon ∷ print s)))
+print_assign : (i : ℕ) (e : Expr) (s : Stmt) → print (seq (assign i e) s) ≡ name i ∷ (mark assign_mark ∷ (print_expr 5 e ++ (mark semicolon ∷ print s)))
 unfolding print
 print_assign i e s = simp append_assoc
 
-print_branch : (e : Expr) (s t u : Stmt) → print (seq (branch e s t) u) ≡ mark if_word ∷ (print_expr 5 e ++ (mark then-word ∷ (print s ++ (mark else-word ∷ (print t ++ (mark end-word ∷ (mark semicolon ∷ print u)))))))
+print_branch : (e : Expr) (s t u : Stmt) → print (seq (branch e s t) u) ≡ mark if_word ∷ (print_expr 5 e ++ (mark then_word ∷ (print s ++ (mark else_word ∷ (print t ++ (mark end_word ∷ (mark semicolon ∷ print u)))))))
 unfolding print
 print_branch e s t u = simp append_assoc
 
-print_repeat : (n : ℕ) (s u : Stmt) → print (seq (repeat n s) u) ≡ mark repeat-word ∷ (number n ∷ (mark times-word ∷ (print s ++ (mark end-word ∷ (mark semicolon ∷ print u)))))
+print_repeat : (n : ℕ) (s u : Stmt) → print (seq (repeat n s) u) ≡ mark repeat_word ∷ (number n ∷ (mark times_word ∷ (print s ++ (mark end_word ∷ (mark semicolon ∷ print u)))))
 unfolding print
 print_repeat n s u = simp append_assoc
 
-print_delay : (o p n : ℕ) (e : Expr) (u : Stmt) → print (seq (delay o p e n) u) ≡ mark delay-word ∷ (name o ∷ (mark comma ∷ (name p ∷ (mark comma ∷ (print_expr 5 e ++ (mark comma ∷ (number n ∷ (mark semicolon ∷ print u))))))))
+print_delay : (o p n : ℕ) (e : Expr) (u : Stmt) → print (seq (delay o p e n) u) ≡ mark delay_word ∷ (name o ∷ (mark comma ∷ (name p ∷ (mark comma ∷ (print_expr 5 e ++ (mark comma ∷ (number n ∷ (mark semicolon ∷ print u))))))))
 unfolding print
 print_delay o p n e u = simp append_assoc
 
@@ -90,27 +90,27 @@ shortest (grammar.a_delay o p n ts us e u re ru) =
     omega (arith, ap length (print_delay o p n e u), delay_length o p n ts us, delay_length o p n (print_expr 5 e) (print u), shortest_expr re 5 (omega arith), shortest ru)
 
 -- an expression whose text is in brackets at a level
-brackets_needed : (m : ℕ) (e : Expr) → length (print_expr 5 e) + 2 ≤ length (print_expr m e) → print_expr m e ≡ mark open-mark ∷ (print_expr 5 e ++ (mark close-mark ∷ []))
+brackets_needed : (m : ℕ) (e : Expr) → length (print_expr 5 e) + 2 ≤ length (print_expr m e) → print_expr m e ≡ mark open_mark ∷ (print_expr 5 e ++ (mark close_mark ∷ []))
 unfolding print_expr
 brackets_needed m (lit n) h = absurd (omega arith)
 brackets_needed m (var i) h = absurd (omega arith)
 brackets_needed m (invert e) h = absurd (omega arith)
 brackets_needed m (binary o a b) h = go (ltb (strength o) m) (print_expr (suc (strength o)) a ++ (operator o ∷ print_expr (strength o) b)) (outermost o a b 5 (strength_below o)) h
   where
-    go : (c : Bool) (ts : List Token) → print_expr 5 (binary o a b) ≡ ts → length (print_expr 5 (binary o a b)) + 2 ≤ length (bracketed c ts) → bracketed c ts ≡ mark open-mark ∷ (print_expr 5 (binary o a b) ++ (mark close-mark ∷ []))
+    go : (c : Bool) (ts : List Token) → print_expr 5 (binary o a b) ≡ ts → length (print_expr 5 (binary o a b)) + 2 ≤ length (bracketed c ts) → bracketed c ts ≡ mark open_mark ∷ (print_expr 5 (binary o a b) ++ (mark close_mark ∷ []))
     go true ts q k = absurd (omega (arith, ap length q))
-    go false ts q k = ap (λ (x : List Token). mark open-mark ∷ (x ++ (mark close-mark ∷ []))) (sym q)
+    go false ts q k = ap (λ (x : List Token). mark open_mark ∷ (x ++ (mark close_mark ∷ []))) (sym q)
 
 only_expr : {l : ℕ} {ts : List Token} {e : Expr} → ReadsExpr l ts e → (m : ℕ) → l ≤ m → length ts ≤ length (print_expr m e) → ts ≡ print_expr m e
 unfolding print_expr
 only_expr (a_number n) m h k = refl
 only_expr (a_name i) m h k = refl
-only_expr (a_not ts e r) m h k = ap (λ (x : List Token). mark not-word ∷ x) (only_expr r 0 (omega arith) (omega arith))
+only_expr (a_not ts e r) m h k = ap (λ (x : List Token). mark not_word ∷ x) (only_expr r 0 (omega arith) (omega arith))
 only_expr (in_brackets ts e r) m h k =
     let b = in_brackets_length ts in
     let s = shortest_expr r 5 (omega arith) in
     let q = only_expr r 5 (omega arith) (omega (arith, two_more m e, b)) in
-    ap (λ (x : List Token). mark open-mark ∷ (x ++ (mark close-mark ∷ []))) q ∙ sym (brackets_needed m e (omega (arith, b, s)))
+    ap (λ (x : List Token). mark open_mark ∷ (x ++ (mark close_mark ∷ []))) q ∙ sym (brackets_needed m e (omega (arith, b, s)))
 only_expr (looser l ts e r) m h k = only_expr r m (omega arith) k
 only_expr (an_operation o ts us a b ra rb) m h k =
     let x = shortest_expr ra (suc (strength o)) (omega arith) in
@@ -134,7 +134,7 @@ only (grammar.an_assign i ts us e s re rs) h =
     let f4 = shortest rs in
     let p = only_expr re 5 (omega arith) (omega (arith, f0, f1, f2, f3, f4)) in
     let q = only rs (omega (arith, f0, f1, f2, f3, f4)) in
-    (λ j. name i ∷ (mark assign-mark ∷ (p j ++ (mark semicolon ∷ q j)))) ∙ sym z
+    (λ j. name i ∷ (mark assign_mark ∷ (p j ++ (mark semicolon ∷ q j)))) ∙ sym z
 only (grammar.a_branch ts xs ys us e s t u re rs rt ru) h =
     let z = print_branch e s t u in
     let f0 = ap length z in
@@ -148,7 +148,7 @@ only (grammar.a_branch ts xs ys us e s t u re rs rt ru) h =
     let q = only rs (omega (arith, f0, f1, f2, f3, f4, f5, f6)) in
     let q' = only rt (omega (arith, f0, f1, f2, f3, f4, f5, f6)) in
     let q'' = only ru (omega (arith, f0, f1, f2, f3, f4, f5, f6)) in
-    (λ j. mark if_word ∷ (p j ++ (mark then-word ∷ (q j ++ (mark else-word ∷ (q' j ++ (mark end-word ∷ (mark semicolon ∷ q'' j)))))))) ∙ sym z
+    (λ j. mark if_word ∷ (p j ++ (mark then_word ∷ (q j ++ (mark else_word ∷ (q' j ++ (mark end_word ∷ (mark semicolon ∷ q'' j)))))))) ∙ sym z
 only (grammar.a_repeat n xs us s u rs ru) h =
     let z = print_repeat n s u in
     let f0 = ap length z in
@@ -158,7 +158,7 @@ only (grammar.a_repeat n xs us s u rs ru) h =
     let f4 = shortest ru in
     let q = only rs (omega (arith, f0, f1, f2, f3, f4)) in
     let q' = only ru (omega (arith, f0, f1, f2, f3, f4)) in
-    (λ j. mark repeat-word ∷ (number n ∷ (mark times-word ∷ (q j ++ (mark end-word ∷ (mark semicolon ∷ q' j)))))) ∙ sym z
+    (λ j. mark repeat_word ∷ (number n ∷ (mark times_word ∷ (q j ++ (mark end_word ∷ (mark semicolon ∷ q' j)))))) ∙ sym z
 only (grammar.a_delay o p n ts us e u re ru) h =
     let z = print_delay o p n e u in
     let f0 = ap length z in
@@ -168,7 +168,7 @@ only (grammar.a_delay o p n ts us e u re ru) h =
     let f4 = shortest ru in
     let q = only_expr re 5 (omega arith) (omega (arith, f0, f1, f2, f3, f4)) in
     let q' = only ru (omega (arith, f0, f1, f2, f3, f4)) in
-    (λ j. mark delay-word ∷ (name o ∷ (mark comma ∷ (name p ∷ (mark comma ∷ (q j ++ (mark comma ∷ (number n ∷ (mark semicolon ∷ q' j))))))))) ∙ sym z
+    (λ j. mark delay_word ∷ (name o ∷ (mark comma ∷ (name p ∷ (mark comma ∷ (q j ++ (mark comma ∷ (number n ∷ (mark semicolon ∷ q' j))))))))) ∙ sym z
 
 pub shortest_texts : Shortest
 shortest_texts = record {

@@ -7,7 +7,7 @@ use Rattle.lexer.specs.declared.Mark.{Mark}
 use Rattle.lexer.specs.declared.Token.{Token}
 use Rattle.lexer.specs.declared.Token.TheVariants.{Number as number, Name as name, Operator as operator, Mark as mark}
 use Rattle.lexer.specs.Pairs.{code, mark_of}
-use Rattle.lexer.specs.declared.Mark.TheVariants.{Not as not-word, Open as open-mark, Close as close-mark, Assign as assign-mark, Semicolon as semicolon, Comma as comma, If as if_word, Then as then-word, Else as else-word, Repeat as repeat-word, Times as times-word, Delay as delay-word, End as end-word}
+use Rattle.lexer.specs.declared.Mark.TheVariants.{Not as not_word, Open as open_mark, Close as close_mark, Assign as assign_mark, Semicolon as semicolon, Comma as comma, If as if_word, Then as then_word, Else as else_word, Repeat as repeat_word, Times as times_word, Delay as delay_word, End as end_word}
 use Rattle.syntax.specs.Grammar.{strength, ReadsExpr, a_number, a_name, in_brackets, an_operation, Reads, no_more, an_assign, a_branch, a_repeat, a_delay}
 use Rattle.syntax.specs.Parser.{Above, Outer, top, then_in, else_in, repeat_in, Block, assign_to, condition_in, delay_in, Pending, whole, right_of, bracket, State, statement, name_read, repeat_read, rounds_read, delay_read, out_read, out_comma, counter_read, length_next, ended, operand, operated, closed, inverts, climb, only, finish, on_else, on_end, begin, prefix, step, at_top, whole_program, start, Parsed, accepted, refused, run, parse}
 use Rattle.syntax.specs.Theorems.{Sound}
@@ -63,13 +63,13 @@ climbed m (right_of o a p) {l} {e} {ts} w h = go (leb (strength o) m) refl (λ q
     go false q ih = record { front = w.front; back = w.back; parts = w.parts; waits = w.waits; reads = raised (suc m) w.reads h; above = leb-false (strength o) m q }
 
 -- the one statement that an expression ends
-assigned : (i : ℕ) (e : Expr) (ts : List Token) → ReadsExpr 5 ts e → One (assign i e) (name i ∷ (mark assign-mark ∷ (ts ++ (mark semicolon ∷ []))))
+assigned : (i : ℕ) (e : Expr) (ts : List Token) → ReadsExpr 5 ts e → One (assign i e) (name i ∷ (mark assign_mark ∷ (ts ++ (mark semicolon ∷ []))))
 assigned i e ts r us t q = rw append_assoc (an_assign i ts us e t r q)
 
-if_opened : (e : Expr) (ts : List Token) → ReadsExpr 5 ts e → ThenOpen e (mark if_word ∷ (ts ++ (mark then-word ∷ [])))
+if_opened : (e : Expr) (ts : List Token) → ReadsExpr 5 ts e → ThenOpen e (mark if_word ∷ (ts ++ (mark then_word ∷ [])))
 if_opened e ts r ys s q zs t q' us u q'' = simp append_assoc (a_branch ts ys zs us e s t u r q q' q'')
 
-delayed : (o p : ℕ) (e : Expr) (ts : List Token) → ReadsExpr 5 ts e → (n : ℕ) → One (delay o p e n) ((mark delay-word ∷ (name o ∷ (mark comma ∷ (name p ∷ (mark comma ∷ (ts ++ (mark comma ∷ []))))))) ++ (number n ∷ (mark semicolon ∷ [])))
+delayed : (o p : ℕ) (e : Expr) (ts : List Token) → ReadsExpr 5 ts e → (n : ℕ) → One (delay o p e n) ((mark delay_word ∷ (name o ∷ (mark comma ∷ (name p ∷ (mark comma ∷ (ts ++ (mark comma ∷ []))))))) ++ (number n ∷ (mark semicolon ∷ [])))
 delayed o p e ts r n us t q = simp append_assoc (a_delay o p n ts us e t r q)
 
 -- an expression after what it is for, and a mark
@@ -83,18 +83,18 @@ finished (whole (assign_to i b)) {l} {e} {ts} m w h q =
     got_only semicolon m (λ n s. Text s (ts ++ (mark n ∷ [])))
     (pushed (assign i e) (goal_read (mark semicolon ∷ []) w.back (λ xs f. rw f (assigned i e w.back (raised 5 w.reads h))) w.front w.parts w.waits)) q
 finished (whole (condition_in b)) {l} {e} {ts} m w h q =
-    got_only then-word m (λ n s. Text s (ts ++ (mark n ∷ [])))
-    (opened_then (goal_read (mark then-word ∷ []) w.back (λ xs f. rw f (if_opened e w.back (raised 5 w.reads h))) w.front w.parts w.waits)) q
+    got_only then_word m (λ n s. Text s (ts ++ (mark n ∷ [])))
+    (opened_then (goal_read (mark then_word ∷ []) w.back (λ xs f. rw f (if_opened e w.back (raised 5 w.reads h))) w.front w.parts w.waits)) q
 finished (whole (delay_in o p b)) {l} {e} {ts} m w h q =
     got_only comma m (λ n s. Text s (ts ++ (mark n ∷ [])))
     (goal_read (mark comma ∷ []) w.back (λ xs f. rw f (delayed o p e w.back (raised 5 w.reads h))) w.front w.parts w.waits) q
 finished (bracket k p) {l} {e} {ts} m w h q =
-    got_only close-mark m (λ n s. Text s (ts ++ (mark n ∷ [])))
+    got_only close_mark m (λ n s. Text s (ts ++ (mark n ∷ [])))
     (let v = w.waits in
     record {
       front = v.0;
-      back = nots k ++ (mark open-mark ∷ (w.back ++ (mark close-mark ∷ [])));
-      parts = ap (λ x. x ++ (mark close-mark ∷ [])) (w.parts ∙ ap (λ x. x ++ w.back) v.1) ∙ simp append_assoc;
+      back = nots k ++ (mark open_mark ∷ (w.back ++ (mark close_mark ∷ [])));
+      parts = ap (λ x. x ++ (mark close_mark ∷ [])) (w.parts ∙ ap (λ x. x ++ w.back) v.1) ∙ simp append_assoc;
       waits = v.2;
       reads = inverted k _ e (in_brackets w.back e (raised 5 w.reads h));
       above = above_0 p;
@@ -102,21 +102,21 @@ finished (bracket k p) {l} {e} {ts} m w h q =
 finished (right_of o a p) {l} {e} {ts} m w h q = finished p m (joined w) (omega (arith, strength_4 o)) q
 
 -- else and end
-else_read : (ss : List Stmt) (k : Outer) (ts : List Token) (s : State) → InBlock (ss, k) ts → on_else ss k ≡ some s → Text s (ts ++ (mark else-word ∷ []))
+else_read : (ss : List Stmt) (k : Outer) (ts : List Token) (s : State) → InBlock (ss, k) ts → on_else ss k ≡ some s → Text s (ts ++ (mark else_word ∷ []))
 unfolding on_else closed
 else_read ss top ts s b q = lost q
 else_read ss (then_in e acc k) ts s b q =
-    got (λ s. Text s (ts ++ (mark else-word ∷ [])))
+    got (λ s. Text s (ts ++ (mark else_word ∷ [])))
     (let a = b.around in
     record {
-      outer = ts ++ (mark else-word ∷ []);
+      outer = ts ++ (mark else_word ∷ []);
       inner = [];
       parts = sym (append-nil _);
       around = (
         a.0,
         a.1,
-        a.2 ++ (b.inner ++ (mark else-word ∷ [])),
-        ap (λ x. x ++ (mark else-word ∷ [])) (b.parts ∙ ap (λ x. x ++ b.inner) a.3) ∙ simp append_assoc,
+        a.2 ++ (b.inner ++ (mark else_word ∷ [])),
+        ap (λ x. x ++ (mark else_word ∷ [])) (b.parts ∙ ap (λ x. x ++ b.inner) a.3) ∙ simp append_assoc,
         a.4,
         a.5,
         λ zs t r us u r'.
@@ -128,29 +128,29 @@ else_read ss (then_in e acc k) ts s b q =
 else_read ss (else_in e t acc k) ts s b q = lost q
 else_read ss (repeat_in n acc k) ts s b q = lost q
 
-end_read : (ss : List Stmt) (k : Outer) (ts : List Token) (s : State) → InBlock (ss, k) ts → on_end ss k ≡ some s → Text s (ts ++ (mark end-word ∷ []))
+end_read : (ss : List Stmt) (k : Outer) (ts : List Token) (s : State) → InBlock (ss, k) ts → on_end ss k ≡ some s → Text s (ts ++ (mark end_word ∷ []))
 unfolding on_end closed
 end_read ss top ts s b q = lost q
 end_read ss (then_in e acc k) ts s b q = lost q
 end_read ss (else_in e t acc k) ts s b q =
-    got (λ s. Text s (ts ++ (mark end-word ∷ [])))
+    got (λ s. Text s (ts ++ (mark end_word ∷ [])))
     (let a = b.around in
     record {
       front = a.0 ++ a.1;
-      back = a.2 ++ (b.inner ++ (mark end-word ∷ []));
-      parts = ap (λ x. x ++ (mark end-word ∷ [])) (b.parts ∙ ap (λ x. x ++ b.inner) a.3) ∙ simp append_assoc;
+      back = a.2 ++ (b.inner ++ (mark end_word ∷ []));
+      parts = ap (λ x. x ++ (mark end_word ∷ [])) (b.parts ∙ ap (λ x. x ++ b.inner) a.3) ∙ simp append_assoc;
       block = record { outer = a.0; inner = a.1; parts = refl; around = a.4; row = a.5 };
       found = λ us u r.
           let whole = a.6 b.inner (closed ss skip) (rw append-nil at (b.row [] skip no_more)) us u r in
           simp append_assoc (simp append_assoc at whole);
     }) q
 end_read ss (repeat_in n acc k) ts s b q =
-    got (λ s. Text s (ts ++ (mark end-word ∷ [])))
+    got (λ s. Text s (ts ++ (mark end_word ∷ [])))
     (let a = b.around in
     record {
       front = a.0 ++ a.1;
-      back = a.2 ++ (b.inner ++ (mark end-word ∷ []));
-      parts = ap (λ x. x ++ (mark end-word ∷ [])) (b.parts ∙ ap (λ x. x ++ b.inner) a.3) ∙ simp append_assoc;
+      back = a.2 ++ (b.inner ++ (mark end_word ∷ []));
+      parts = ap (λ x. x ++ (mark end_word ∷ [])) (b.parts ∙ ap (λ x. x ++ b.inner) a.3) ∙ simp append_assoc;
       block = record { outer = a.0; inner = a.1; parts = refl; around = a.4; row = a.5 };
       found = λ us u r.
           let whole = a.6 b.inner (closed ss skip) (rw append-nil at (b.row [] skip no_more)) us u r in
@@ -160,38 +160,38 @@ end_read ss (repeat_in n acc k) ts s b q =
 begun : (m : Mark) (b : Block) (ts : List Token) (s : State) → InBlock b ts → begin m b ≡ some s → Text s (ts ++ (mark m ∷ []))
 unfolding begin
 begun if_word b ts s w q = got (λ s. Text s (ts ++ (mark if_word ∷ []))) (ts ++ (mark if_word ∷ []), sym (append-nil _), begins (mark if_word ∷ []) refl w) q
-begun repeat-word b ts s w q = got (λ s. Text s (ts ++ (mark repeat-word ∷ []))) (begins (mark repeat-word ∷ []) refl w) q
-begun delay-word b ts s w q = got (λ s. Text s (ts ++ (mark delay-word ∷ []))) (begins (mark delay-word ∷ []) refl w) q
-begun else-word b ts s w q = else_read b.0 b.1 ts s w q
-begun end-word b ts s w q = end_read b.0 b.1 ts s w q
-begun not-word b ts s w q = lost q
-begun open-mark b ts s w q = lost q
-begun close-mark b ts s w q = lost q
-begun assign-mark b ts s w q = lost q
+begun repeat_word b ts s w q = got (λ s. Text s (ts ++ (mark repeat_word ∷ []))) (begins (mark repeat_word ∷ []) refl w) q
+begun delay_word b ts s w q = got (λ s. Text s (ts ++ (mark delay_word ∷ []))) (begins (mark delay_word ∷ []) refl w) q
+begun else_word b ts s w q = else_read b.0 b.1 ts s w q
+begun end_word b ts s w q = end_read b.0 b.1 ts s w q
+begun not_word b ts s w q = lost q
+begun open_mark b ts s w q = lost q
+begun close_mark b ts s w q = lost q
+begun assign_mark b ts s w q = lost q
 begun semicolon b ts s w q = lost q
 begun comma b ts s w q = lost q
-begun then-word b ts s w q = lost q
-begun times-word b ts s w q = lost q
+begun then_word b ts s w q = lost q
+begun times_word b ts s w q = lost q
 
 prefixed : (m : Mark) (k : ℕ) (p : Pending) (ts : List Token) (s : State) → Text (operand k p) ts → prefix m k p ≡ some s → Text s (ts ++ (mark m ∷ []))
 unfolding prefix
-prefixed not-word k p ts s w q =
-    got (λ s. Text s (ts ++ (mark not-word ∷ [])))
-    (w.0, ap (λ x. x ++ (mark not-word ∷ [])) w.1 ∙ append_assoc w.0 (nots k) (mark not-word ∷ []) ∙ ap (λ x. w.0 ++ x) (nots_more k [] ∙ ap (λ x. mark not-word ∷ x) (append-nil (nots k))), w.2) q
-prefixed open-mark k p ts s w q =
-    got (λ s. Text s (ts ++ (mark open-mark ∷ [])))
-    (ts ++ (mark open-mark ∷ []), sym (append-nil _), (w.0, ap (λ x. x ++ (mark open-mark ∷ [])) w.1 ∙ append_assoc w.0 (nots k) (mark open-mark ∷ []), w.2)) q
-prefixed close-mark k p ts s w q = lost q
-prefixed assign-mark k p ts s w q = lost q
+prefixed not_word k p ts s w q =
+    got (λ s. Text s (ts ++ (mark not_word ∷ [])))
+    (w.0, ap (λ x. x ++ (mark not_word ∷ [])) w.1 ∙ append_assoc w.0 (nots k) (mark not_word ∷ []) ∙ ap (λ x. w.0 ++ x) (nots_more k [] ∙ ap (λ x. mark not_word ∷ x) (append-nil (nots k))), w.2) q
+prefixed open_mark k p ts s w q =
+    got (λ s. Text s (ts ++ (mark open_mark ∷ [])))
+    (ts ++ (mark open_mark ∷ []), sym (append-nil _), (w.0, ap (λ x. x ++ (mark open_mark ∷ [])) w.1 ∙ append_assoc w.0 (nots k) (mark open_mark ∷ []), w.2)) q
+prefixed close_mark k p ts s w q = lost q
+prefixed assign_mark k p ts s w q = lost q
 prefixed semicolon k p ts s w q = lost q
 prefixed comma k p ts s w q = lost q
 prefixed if_word k p ts s w q = lost q
-prefixed then-word k p ts s w q = lost q
-prefixed else-word k p ts s w q = lost q
-prefixed repeat-word k p ts s w q = lost q
-prefixed times-word k p ts s w q = lost q
-prefixed delay-word k p ts s w q = lost q
-prefixed end-word k p ts s w q = lost q
+prefixed then_word k p ts s w q = lost q
+prefixed else_word k p ts s w q = lost q
+prefixed repeat_word k p ts s w q = lost q
+prefixed times_word k p ts s w q = lost q
+prefixed delay_word k p ts s w q = lost q
+prefixed end_word k p ts s w q = lost q
 
 -- a token more
 next : {b : Block} {ts : List Token} {xs : List Token} (t : Token) → After b (λ ys. ys ≡ xs) ts → After b (λ ys. ys ≡ xs ++ (t ∷ [])) (ts ++ (t ∷ []))
@@ -206,7 +206,7 @@ stepped (statement b) (mark m) ts s w q = begun m b ts s w q
 stepped (name_read i b) (number n) ts s w q = lost q
 stepped (name_read i b) (name j) ts s w q = lost q
 stepped (name_read i b) (operator o) ts s w q = lost q
-stepped (name_read i b) (mark m) ts s w q = got_only assign-mark m (λ n s. Text s (ts ++ (mark n ∷ []))) (ts ++ (mark assign-mark ∷ []), sym (append-nil _), next (mark assign-mark) w) q
+stepped (name_read i b) (mark m) ts s w q = got_only assign_mark m (λ n s. Text s (ts ++ (mark n ∷ []))) (ts ++ (mark assign_mark ∷ []), sym (append-nil _), next (mark assign_mark) w) q
 stepped (repeat_read b) (number n) ts s w q = got (λ s. Text s (ts ++ (number n ∷ []))) (next (number n) w) q
 stepped (repeat_read b) (name i) ts s w q = lost q
 stepped (repeat_read b) (operator o) ts s w q = lost q
@@ -215,8 +215,8 @@ stepped (rounds_read n b) (number m) ts s w q = lost q
 stepped (rounds_read n b) (name i) ts s w q = lost q
 stepped (rounds_read n b) (operator o) ts s w q = lost q
 stepped (rounds_read n b) (mark m) ts s w q =
-    got_only times-word m (λ n s. Text s (ts ++ (mark n ∷ [])))
-    (opened_repeat (after (mark times-word ∷ []) (λ xs f ys s r us t r'. rw f (simp append_assoc (a_repeat n ys us s t r r'))) w)) q
+    got_only times_word m (λ n s. Text s (ts ++ (mark n ∷ [])))
+    (opened_repeat (after (mark times_word ∷ []) (λ xs f ys s r us t r'. rw f (simp append_assoc (a_repeat n ys us s t r r'))) w)) q
 stepped (delay_read b) (number n) ts s w q = lost q
 stepped (delay_read b) (name i) ts s w q = got (λ s. Text s (ts ++ (name i ∷ []))) (next (name i) w) q
 stepped (delay_read b) (operator o) ts s w q = lost q

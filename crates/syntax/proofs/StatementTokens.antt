@@ -2,7 +2,7 @@
 use Rattle.std.proofs.Common.{◌≡◌, ℕ, ◌+◌, ◌*◌, ◌<◌, true, false, List, [], length, set, sym, refl, ap, ◌∙◌, subst, inl, arith}
 use mathlib.Core.Option.{Option, none}
 use Rattle.lexer.specs.declared.Mark.{Mark}
-use Rattle.lexer.specs.declared.Mark.TheVariants.{Not as not-word, Open as open-mark, Close as close-mark, Assign as assign-mark, Semicolon as semicolon, Comma as comma, If as if_word, Then as then-word, Else as else-word, Repeat as repeat-word, Times as times-word, Delay as delay-word, End as end-word}
+use Rattle.lexer.specs.declared.Mark.TheVariants.{Not as not_word, Open as open_mark, Close as close_mark, Assign as assign_mark, Semicolon as semicolon, Comma as comma, If as if_word, Then as then_word, Else as else_word, Repeat as repeat_word, Times as times_word, Delay as delay_word, End as end_word}
 use Rattle.lexer.specs.declared.Token.{Token}
 use Rattle.lexer.specs.declared.Token.TheVariants.{Number as number, Name as name, Operator as operator, Mark as mark}
 use Rattle.syntax.specs.Ast.{Expr, Stmt, skip, branch, repeat, delay}
@@ -117,40 +117,40 @@ module _ (x : Mark) (m : List ℕ) (s : List Frame) (t : Top) where
       begun if_word m (set s t.depth ConditionIn) (Operand r) z
       (λ b l. (0, whole (condition_in b), refl, awaited m (set s t.depth ConditionIn) r t.used (t.depth + 1) (condition_in b) u q (aimed ConditionIn b m s t.used t.depth h l)))
 
-  pub begins_else : (m' : List ℕ) (s' : List Frame) (r : State) → x ≡ else-word → ReadsElse m s t m' s' r → Begins x m s t m' s' r
+  pub begins_else : (m' : List ℕ) (s' : List Frame) (r : State) → x ≡ else_word → ReadsElse m s t m' s' r → Begins x m s t m' s' r
   unfolding begin
-  begins_else m' s' r z g = begun else-word m' s' r z g
+  begins_else m' s' r z g = begun else_word m' s' r z g
 
-  pub begins_repeat : x ≡ repeat-word → Begins x m s t m s (RepeatRead t)
+  pub begins_repeat : x ≡ repeat_word → Begins x m s t m s (RepeatRead t)
   unfolding begin
-  begins_repeat z = begun repeat-word m s (RepeatRead t) z (λ b l. (b, refl, l))
+  begins_repeat z = begun repeat_word m s (RepeatRead t) z (λ b l. (b, refl, l))
 
-  pub begins_delay : x ≡ delay-word → Begins x m s t m s (DelayRead t)
+  pub begins_delay : x ≡ delay_word → Begins x m s t m s (DelayRead t)
   unfolding begin
-  begins_delay z = begun delay-word m s (DelayRead t) z (λ b l. (b, refl, l))
+  begins_delay z = begun delay_word m s (DelayRead t) z (λ b l. (b, refl, l))
 
-  pub begins_end : (m' : List ℕ) (s' : List Frame) (r : State) → x ≡ end-word → ReadsEnd m s t m' s' r → Begins x m s t m' s' r
+  pub begins_end : (m' : List ℕ) (s' : List Frame) (r : State) → x ≡ end_word → ReadsEnd m s t m' s' r → Begins x m s t m' s' r
   unfolding begin
-  begins_end m' s' r z g = begun end-word m' s' r z g
+  begins_end m' s' r z g = begun end_word m' s' r z g
 
-  pub begins_none : (x ≡ if_word → ⊥) → (x ≡ else-word → ⊥) → (x ≡ repeat-word → ⊥) → (x ≡ delay-word → ⊥) → (x ≡ end-word → ⊥) → Begins x m s t m s Refused
+  pub begins_none : (x ≡ if_word → ⊥) → (x ≡ else_word → ⊥) → (x ≡ repeat_word → ⊥) → (x ≡ delay_word → ⊥) → (x ≡ end_word → ⊥) → Begins x m s t m s Refused
   unfolding begin
   begins_none h₁ h₂ h₃ h₄ h₅ b l = refuse m s _ (none_of x h₁ h₂ h₃ h₄ h₅)
     where
-      none_of : (y : Mark) → (y ≡ if_word → ⊥) → (y ≡ else-word → ⊥) → (y ≡ repeat-word → ⊥) → (y ≡ delay-word → ⊥) → (y ≡ end-word → ⊥) → begin y b ≡ none
+      none_of : (y : Mark) → (y ≡ if_word → ⊥) → (y ≡ else_word → ⊥) → (y ≡ repeat_word → ⊥) → (y ≡ delay_word → ⊥) → (y ≡ end_word → ⊥) → begin y b ≡ none
       none_of if_word a₁ a₂ a₃ a₄ a₅ = absurd (a₁ refl)
-      none_of else-word a₁ a₂ a₃ a₄ a₅ = absurd (a₂ refl)
-      none_of repeat-word a₁ a₂ a₃ a₄ a₅ = absurd (a₃ refl)
-      none_of delay-word a₁ a₂ a₃ a₄ a₅ = absurd (a₄ refl)
-      none_of end-word a₁ a₂ a₃ a₄ a₅ = absurd (a₅ refl)
-      none_of not-word a₁ a₂ a₃ a₄ a₅ = refl
-      none_of open-mark a₁ a₂ a₃ a₄ a₅ = refl
-      none_of close-mark a₁ a₂ a₃ a₄ a₅ = refl
-      none_of assign-mark a₁ a₂ a₃ a₄ a₅ = refl
+      none_of else_word a₁ a₂ a₃ a₄ a₅ = absurd (a₂ refl)
+      none_of repeat_word a₁ a₂ a₃ a₄ a₅ = absurd (a₃ refl)
+      none_of delay_word a₁ a₂ a₃ a₄ a₅ = absurd (a₄ refl)
+      none_of end_word a₁ a₂ a₃ a₄ a₅ = absurd (a₅ refl)
+      none_of not_word a₁ a₂ a₃ a₄ a₅ = refl
+      none_of open_mark a₁ a₂ a₃ a₄ a₅ = refl
+      none_of close_mark a₁ a₂ a₃ a₄ a₅ = refl
+      none_of assign_mark a₁ a₂ a₃ a₄ a₅ = refl
       none_of semicolon a₁ a₂ a₃ a₄ a₅ = refl
       none_of comma a₁ a₂ a₃ a₄ a₅ = refl
-      none_of then-word a₁ a₂ a₃ a₄ a₅ = refl
-      none_of times-word a₁ a₂ a₃ a₄ a₅ = refl
+      none_of then_word a₁ a₂ a₃ a₄ a₅ = refl
+      none_of times_word a₁ a₂ a₃ a₄ a₅ = refl
 
 -- the token where a statement could begin
 module _ (t : Token) (m : List ℕ) (s : List Frame) (o : Top) where
@@ -181,11 +181,11 @@ module _ (t : Token) (s : List Frame) (o : Top) (f q : Block → parser.State) (
       (m : List ℕ) (p : parser.State) → (b : Block) × (p ≡ f b) × Here m s o b → Next (step p t) m s' r
   right_mark s' r h g m = from_block t t refl m m s s' o r f (λ b l. reach m s' r _ (q b) (expected (e b) t h) (g m b l))
 
-expects_assign : (i : ℕ) (b : Block) → Expects (name_read i b) assign-mark (operand 0 (whole (assign_to i b)))
+expects_assign : (i : ℕ) (b : Block) → Expects (name_read i b) assign_mark (operand 0 (whole (assign_to i b)))
 unfolding step
 expects_assign i b = record { no_number = λ n. refl; no_name = λ i. refl; no_operator = λ o. refl; marks = λ y. refl }
 
-expects_times : (n : ℕ) (b : Block) → Expects (rounds_read n b) times-word (statement ([], repeat_in n b.0 b.1))
+expects_times : (n : ℕ) (b : Block) → Expects (rounds_read n b) times_word (statement ([], repeat_in n b.0 b.1))
 unfolding step
 expects_times n b = record { no_number = λ n. refl; no_name = λ i. refl; no_operator = λ o. refl; marks = λ y. refl }
 
@@ -202,25 +202,25 @@ unfolding step
 expects_semicolon v b = record { no_number = λ n. refl; no_name = λ i. refl; no_operator = λ o. refl; marks = λ y. refl }
 
 module _ (t : Token) (s : List Frame) (o : Top) where
-  pub not_assigned : (i : ℕ) → is_mark assign-mark t ≡ false → ReadFrames t s (NameRead o i) s Refused
-  not_assigned i h = other_mark t s o (name_read i) (λ b. operand 0 (whole (assign_to i b))) assign-mark (expects_assign i) h
+  pub not_assigned : (i : ℕ) → is_mark assign_mark t ≡ false → ReadFrames t s (NameRead o i) s Refused
+  not_assigned i h = other_mark t s o (name_read i) (λ b. operand 0 (whole (assign_to i b))) assign_mark (expects_assign i) h
 
-  pub assigned : (i : ℕ) (r : Top) → is_mark assign-mark t ≡ true → o.depth < length s → r.used ≡ o.used → r.depth ≡ o.depth + 1 → ReadFrames t s (NameRead o i) (set s o.depth (AssignTo i)) (Operand r)
+  pub assigned : (i : ℕ) (r : Top) → is_mark assign_mark t ≡ true → o.depth < length s → r.used ≡ o.used → r.depth ≡ o.depth + 1 → ReadFrames t s (NameRead o i) (set s o.depth (AssignTo i)) (Operand r)
   unfolding Stacked
   assigned i r h k u q =
       let s' = set s o.depth (AssignTo i) in
-      right_mark t s o (name_read i) (λ b. operand 0 (whole (assign_to i b))) assign-mark (expects_assign i) s' (Operand r) h
+      right_mark t s o (name_read i) (λ b. operand 0 (whole (assign_to i b))) assign_mark (expects_assign i) s' (Operand r) h
       (λ m b l. (0, whole (assign_to i b), refl, awaited m s' r o.used (o.depth + 1) (assign_to i b) u q (aimed (AssignTo i) b m s o.used o.depth k l)))
 
-  pub not_times : (n : ℕ) → is_mark times-word t ≡ false → ReadFrames t s (RoundsRead o n) s Refused
-  not_times n h = other_mark t s o (rounds_read n) (λ b. statement ([], repeat_in n b.0 b.1)) times-word (expects_times n) h
+  pub not_times : (n : ℕ) → is_mark times_word t ≡ false → ReadFrames t s (RoundsRead o n) s Refused
+  not_times n h = other_mark t s o (rounds_read n) (λ b. statement ([], repeat_in n b.0 b.1)) times_word (expects_times n) h
 
-  pub times : (n : ℕ) (r : Top) → is_mark times-word t ≡ true → o.depth < length s → r.used ≡ o.used → r.depth ≡ o.depth + 1 → ReadFrames t s (RoundsRead o n) (set s o.depth (RepeatIn n)) (Statement r)
+  pub times : (n : ℕ) (r : Top) → is_mark times_word t ≡ true → o.depth < length s → r.used ≡ o.used → r.depth ≡ o.depth + 1 → ReadFrames t s (RoundsRead o n) (set s o.depth (RepeatIn n)) (Statement r)
   unfolding Outers Rows
   times n r h k u q =
       let f = RepeatIn n in
       let d = o.depth in
-      right_mark t s o (rounds_read n) (λ b. statement ([], repeat_in n b.0 b.1)) times-word (expects_times n) (set s d f) (Statement r) h
+      right_mark t s o (rounds_read n) (λ b. statement ([], repeat_in n b.0 b.1)) times_word (expects_times n) (set s d f) (Statement r) h
       (λ m b l.
       let a = blocked_same m m s (set s d f) o.used o.used (untouched o.used m) (omega arith) b d (frames_below s d f) l in
       (([], repeat_in n b.0 b.1), refl, rw (u, q) (record { base = d + 1; rows = refl; outer = (d, a.base, omega arith, frame_new s d f k, a.rows, a.outer) })))

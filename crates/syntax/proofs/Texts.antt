@@ -3,7 +3,7 @@ use Rattle.std.proofs.Common.{◌≡◌, ℕ, zero, suc, List, [], ◌∷◌, �
 use Rattle.syntax.specs.Ast.{Expr, invert, Stmt, seq, branch, repeat, delay}
 use Rattle.lexer.specs.declared.Token.{Token}
 use Rattle.lexer.specs.declared.Token.TheVariants.{Number as number, Name as name, Operator as operator, Mark as mark}
-use Rattle.lexer.specs.declared.Mark.TheVariants.{Not as not-word, Open as open-mark, Assign as assign-mark, Semicolon as semicolon, Comma as comma, If as if_word, Else as else-word, Repeat as repeat-word, Delay as delay-word, End as end-word}
+use Rattle.lexer.specs.declared.Mark.TheVariants.{Not as not_word, Open as open_mark, Assign as assign_mark, Semicolon as semicolon, Comma as comma, If as if_word, Else as else_word, Repeat as repeat_word, Delay as delay_word, End as end_word}
 use Rattle.syntax.specs.Grammar.{strength, ReadsExpr, a_not, Reads}
 use Rattle.syntax.specs.Parser.{Above, Outer, top, then_in, else_in, repeat_in, Block, push, Goal, assign_to, condition_in, delay_in, Pending, whole, right_of, bracket, State, statement, name_read, repeat_read, rounds_read, delay_read, out_read, out_comma, counter_read, length_next, ended, operand, operated, closed, inverts}
 
@@ -17,10 +17,10 @@ One s ts = (us : List Token) (t : Stmt) → Reads us t → Reads (ts ++ us) (seq
 
 -- the tokens open a block of a statement
 abbrev pub ThenOpen : Expr → List Token → Type 0
-ThenOpen e xs = (ys : List Token) (s : Stmt) → Reads ys s → (zs : List Token) (t : Stmt) → Reads zs t → One (branch e s t) (xs ++ (ys ++ (mark else-word ∷ (zs ++ (mark end-word ∷ (mark semicolon ∷ []))))))
+ThenOpen e xs = (ys : List Token) (s : Stmt) → Reads ys s → (zs : List Token) (t : Stmt) → Reads zs t → One (branch e s t) (xs ++ (ys ++ (mark else_word ∷ (zs ++ (mark end_word ∷ (mark semicolon ∷ []))))))
 
 abbrev pub BodyOpen : (Stmt → Stmt) → List Token → Type 0
-BodyOpen f xs = (ys : List Token) (s : Stmt) → Reads ys s → One (f s) (xs ++ (ys ++ (mark end-word ∷ (mark semicolon ∷ []))))
+BodyOpen f xs = (ys : List Token) (s : Stmt) → Reads ys s → One (f s) (xs ++ (ys ++ (mark end_word ∷ (mark semicolon ∷ []))))
 
 -- the tokens up to the innermost block
 abbrev pub InOuter : Outer → List Token → Type 0
@@ -76,27 +76,27 @@ opened_repeat {ts = ts} a = record { outer = ts; inner = []; parts = sym (append
 -- the nots before an operand
 abbrev pub nots : ℕ → List Token
 nots zero = []
-nots (suc k) = mark not-word ∷ nots k
+nots (suc k) = mark not_word ∷ nots k
 
-pub nots_more : (k : ℕ) (ts : List Token) → nots k ++ (mark not-word ∷ ts) ≡ mark not-word ∷ (nots k ++ ts)
+pub nots_more : (k : ℕ) (ts : List Token) → nots k ++ (mark not_word ∷ ts) ≡ mark not_word ∷ (nots k ++ ts)
 nots_more zero ts = refl
-nots_more (suc k) ts = ap (λ x. mark not-word ∷ x) (nots_more k ts)
+nots_more (suc k) ts = ap (λ x. mark not_word ∷ x) (nots_more k ts)
 
 pub inverted : (k : ℕ) (ts : List Token) (e : Expr) → ReadsExpr 0 ts e → ReadsExpr 0 (nots k ++ ts) (inverts k e)
 unfolding inverts
 inverted zero ts e r = r
-inverted (suc k) ts e r = subst (λ (x : List Token). ReadsExpr 0 x (inverts k (invert e))) (nots_more k ts) (inverted k (mark not-word ∷ ts) (invert e) (a_not ts e r))
+inverted (suc k) ts e r = subst (λ (x : List Token). ReadsExpr 0 x (inverts k (invert e))) (nots_more k ts) (inverted k (mark not_word ∷ ts) (invert e) (a_not ts e r))
 
 -- what the expression is for
 abbrev pub For : Goal → List Token → Type 0
-For (assign_to i b) ts = After b (λ xs. xs ≡ name i ∷ (mark assign-mark ∷ [])) ts
+For (assign_to i b) ts = After b (λ xs. xs ≡ name i ∷ (mark assign_mark ∷ [])) ts
 For (condition_in b) ts = After b (λ xs. xs ≡ mark if_word ∷ []) ts
-For (delay_in o p b) ts = After b (λ xs. xs ≡ mark delay-word ∷ (name o ∷ (mark comma ∷ (name p ∷ (mark comma ∷ []))))) ts
+For (delay_in o p b) ts = After b (λ xs. xs ≡ mark delay_word ∷ (name o ∷ (mark comma ∷ (name p ∷ (mark comma ∷ []))))) ts
 
 -- the tokens before the operand that comes next, without its nots
 abbrev pub Waits : Pending → List Token → Type 0
 Waits (whole g) ts = For g ts
-Waits (bracket k p) ts = (us : List Token) × (ts ≡ us ++ (nots k ++ (mark open-mark ∷ []))) × Waits p us
+Waits (bracket k p) ts = (us : List Token) × (ts ≡ us ++ (nots k ++ (mark open_mark ∷ []))) × Waits p us
 Waits (right_of o a p) ts = (us vs : List Token) × (ts ≡ us ++ (vs ++ (operator o ∷ []))) × Waits p us × ReadsExpr (suc (strength o)) vs a × Above p (suc (strength o))
 
 -- the tokens up to the end of an operand of a level
@@ -112,12 +112,12 @@ pub record Operated (l : ℕ) (p : Pending) (e : Expr) (ts : List Token) : Type 
 abbrev pub Text : State → List Token → Type 0
 Text (statement b) ts = InBlock b ts
 Text (name_read i b) ts = After b (λ xs. xs ≡ name i ∷ []) ts
-Text (repeat_read b) ts = After b (λ xs. xs ≡ mark repeat-word ∷ []) ts
-Text (rounds_read n b) ts = After b (λ xs. xs ≡ mark repeat-word ∷ (number n ∷ [])) ts
-Text (delay_read b) ts = After b (λ xs. xs ≡ mark delay-word ∷ []) ts
-Text (out_read o b) ts = After b (λ xs. xs ≡ mark delay-word ∷ (name o ∷ [])) ts
-Text (out_comma o b) ts = After b (λ xs. xs ≡ mark delay-word ∷ (name o ∷ (mark comma ∷ []))) ts
-Text (counter_read o p b) ts = After b (λ xs. xs ≡ mark delay-word ∷ (name o ∷ (mark comma ∷ (name p ∷ [])))) ts
+Text (repeat_read b) ts = After b (λ xs. xs ≡ mark repeat_word ∷ []) ts
+Text (rounds_read n b) ts = After b (λ xs. xs ≡ mark repeat_word ∷ (number n ∷ [])) ts
+Text (delay_read b) ts = After b (λ xs. xs ≡ mark delay_word ∷ []) ts
+Text (out_read o b) ts = After b (λ xs. xs ≡ mark delay_word ∷ (name o ∷ [])) ts
+Text (out_comma o b) ts = After b (λ xs. xs ≡ mark delay_word ∷ (name o ∷ (mark comma ∷ []))) ts
+Text (counter_read o p b) ts = After b (λ xs. xs ≡ mark delay_word ∷ (name o ∷ (mark comma ∷ (name p ∷ [])))) ts
 Text (length_next o p e b) ts = After b (λ xs. (n : ℕ) → One (delay o p e n) (xs ++ (number n ∷ (mark semicolon ∷ [])))) ts
 Text (ended s b) ts = After b (λ xs. One s (xs ++ (mark semicolon ∷ []))) ts
 Text (operand k p) ts = (us : List Token) × (ts ≡ us ++ nots k) × Waits p us

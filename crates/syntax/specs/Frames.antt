@@ -6,7 +6,7 @@ use Rattle.syntax.specs.Tree.{cell, Holds, HoldsStmt}
 use Rattle.syntax.specs.declared.frame.Frame.{Frame}
 use Rattle.syntax.specs.declared.frame.Frame.TheVariants.{Bracket, RightOf, Not, Done, ThenIn, ElseIn, RepeatIn, AssignTo, ConditionIn, DelayIn}
 use Rattle.syntax.specs.declared.node.Node.{Node}
-use Rattle.syntax.specs.declared.node.Node.TheVariants.{Literal, Variable, Not as Not-node, Binary, Skip, Assign, Seq, Branch, Repeat, Delay, Setting, Broken}
+use Rattle.syntax.specs.declared.node.Node.TheVariants.{Literal, Variable, Not as NotNode, Binary, Skip, Assign, Seq, Branch, Repeat, Delay, Setting, Broken}
 
 -- a tree in the lowest n nodes, at node x
 abbrev pub ExprAt : (m : List ℕ) (n x : ℕ) → Expr → Type 0
@@ -72,7 +72,7 @@ pub record Written (m m' : List ℕ) (i a b c d : ℕ) : Type 0 where
 abbrev pub Wrote : (m m' : List ℕ) (i : ℕ) → Node → Type 0
 Wrote m m' i (Literal n) = Written m m' i 0 n 0 0
 Wrote m m' i (Variable v) = Written m m' i 1 v 0 0
-Wrote m m' i (Not-node a) = Written m m' i 2 a 0 0
+Wrote m m' i (NotNode a) = Written m m' i 2 a 0 0
 Wrote m m' i (Binary o a b) = Written m m' i 3 o a b
 Wrote m m' i Skip = Written m m' i 4 0 0 0
 Wrote m m' i (Assign v a) = Written m m' i 5 v a 0

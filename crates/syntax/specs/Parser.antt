@@ -7,7 +7,7 @@ use Rattle.lexer.specs.declared.Mark.{Mark}
 use Rattle.lexer.specs.declared.Token.{Token}
 use Rattle.lexer.specs.declared.Token.TheVariants.{Number as number, Name as name, Operator as operator, Mark as mark}
 use Rattle.lexer.specs.Pairs.{code}
-use Rattle.lexer.specs.declared.Mark.TheVariants.{Not as not-word, Open as open-mark, Close as close-mark, Assign as assign-mark, Semicolon as semicolon, Comma as comma, If as if_word, Then as then-word, Else as else-word, Repeat as repeat-word, Times as times-word, Delay as delay-word, End as end-word}
+use Rattle.lexer.specs.declared.Mark.TheVariants.{Not as not_word, Open as open_mark, Close as close_mark, Assign as assign_mark, Semicolon as semicolon, Comma as comma, If as if_word, Then as then_word, Else as else_word, Repeat as repeat_word, Times as times_word, Delay as delay_word, End as end_word}
 use Rattle.syntax.specs.Grammar.{strength}
 
 -- the blocks around the one that is being read, innermost first, each with its statements so far, the last one first
@@ -90,9 +90,9 @@ only m m' s = cond (same_mark m m') (some s) none
 -- a mark after an operand: all is joined up to the bracket or the whole expression
 unfoldable pub finish : Pending → Expr → Mark → Option State
 finish (whole (assign_to i b)) e m = only semicolon m (statement (push (assign i e) b))
-finish (whole (condition_in b)) e m = only then-word m (statement ([], then_in e b.0 b.1))
+finish (whole (condition_in b)) e m = only then_word m (statement ([], then_in e b.0 b.1))
 finish (whole (delay_in out counter b)) e m = only comma m (length_next out counter e b)
-finish (bracket k p) e m = only close-mark m (operated p (inverts k e))
+finish (bracket k p) e m = only close_mark m (operated p (inverts k e))
 finish (right_of o a p) e m = finish p (binary o a e) m
 
 -- else and end close a block
@@ -110,33 +110,33 @@ on_end ss (repeat_in n acc k) = some (ended (repeat n (closed ss skip)) (acc, k)
 
 unfoldable pub begin : Mark → Block → Option State
 begin if_word b = some (operand 0 (whole (condition_in b)))
-begin repeat-word b = some (repeat_read b)
-begin delay-word b = some (delay_read b)
-begin else-word b = on_else b.0 b.1
-begin end-word b = on_end b.0 b.1
-begin not-word b = none
-begin open-mark b = none
-begin close-mark b = none
-begin assign-mark b = none
+begin repeat_word b = some (repeat_read b)
+begin delay_word b = some (delay_read b)
+begin else_word b = on_else b.0 b.1
+begin end_word b = on_end b.0 b.1
+begin not_word b = none
+begin open_mark b = none
+begin close_mark b = none
+begin assign_mark b = none
 begin semicolon b = none
 begin comma b = none
-begin then-word b = none
-begin times-word b = none
+begin then_word b = none
+begin times_word b = none
 
 unfoldable pub prefix : Mark → ℕ → Pending → Option State
-prefix not-word k p = some (operand (suc k) p)
-prefix open-mark k p = some (operand 0 (bracket k p))
-prefix close-mark k p = none
-prefix assign-mark k p = none
+prefix not_word k p = some (operand (suc k) p)
+prefix open_mark k p = some (operand 0 (bracket k p))
+prefix close_mark k p = none
+prefix assign_mark k p = none
 prefix semicolon k p = none
 prefix comma k p = none
 prefix if_word k p = none
-prefix then-word k p = none
-prefix else-word k p = none
-prefix repeat-word k p = none
-prefix times-word k p = none
-prefix delay-word k p = none
-prefix end-word k p = none
+prefix then_word k p = none
+prefix else_word k p = none
+prefix repeat_word k p = none
+prefix times_word k p = none
+prefix delay_word k p = none
+prefix end_word k p = none
 
 -- one token
 unfoldable pub step : State → Token → Option State
@@ -147,7 +147,7 @@ step (statement b) (mark m) = begin m b
 step (name_read i b) (number n) = none
 step (name_read i b) (name j) = none
 step (name_read i b) (operator o) = none
-step (name_read i b) (mark m) = only assign-mark m (operand 0 (whole (assign_to i b)))
+step (name_read i b) (mark m) = only assign_mark m (operand 0 (whole (assign_to i b)))
 step (repeat_read b) (number n) = some (rounds_read n b)
 step (repeat_read b) (name i) = none
 step (repeat_read b) (operator o) = none
@@ -155,7 +155,7 @@ step (repeat_read b) (mark m) = none
 step (rounds_read n b) (number m) = none
 step (rounds_read n b) (name i) = none
 step (rounds_read n b) (operator o) = none
-step (rounds_read n b) (mark m) = only times-word m (statement ([], repeat_in n b.0 b.1))
+step (rounds_read n b) (mark m) = only times_word m (statement ([], repeat_in n b.0 b.1))
 step (delay_read b) (number n) = none
 step (delay_read b) (name i) = some (out_read i b)
 step (delay_read b) (operator o) = none

@@ -3,29 +3,29 @@ use Rattle.std.specs.Prelude.{◌≡◌, ℕ, suc, ◌≤◌, Bool, cond, List, 
 use Rattle.syntax.specs.Ast.{Expr, lit, var, invert, binary, Stmt, skip, assign, seq, branch, repeat, delay}
 use Rattle.lexer.specs.declared.Token.{Token}
 use Rattle.lexer.specs.declared.Token.TheVariants.{Number as number, Name as name, Operator as operator, Mark as mark}
-use Rattle.lexer.specs.declared.Mark.TheVariants.{Not as not-word, Open as open-mark, Close as close-mark, Assign as assign-mark, Semicolon as semicolon, Comma as comma, If as if_word, Then as then-word, Else as else-word, Repeat as repeat-word, Times as times-word, Delay as delay-word, End as end-word}
+use Rattle.lexer.specs.declared.Mark.TheVariants.{Not as not_word, Open as open_mark, Close as close_mark, Assign as assign_mark, Semicolon as semicolon, Comma as comma, If as if_word, Then as then_word, Else as else_word, Repeat as repeat_word, Times as times_word, Delay as delay_word, End as end_word}
 use Rattle.syntax.specs.Grammar.{strength, ReadsExpr, Reads}
 use Rattle.syntax.specs.Parser.{accepted, parse}
 
 -- bare, or in brackets
 abbrev pub bracketed : Bool → List Token → List Token
-bracketed bare ts = cond bare ts (mark open-mark ∷ (ts ++ (mark close-mark ∷ [])))
+bracketed bare ts = cond bare ts (mark open_mark ∷ (ts ++ (mark close_mark ∷ [])))
 
 -- the tokens of an expression where one of level l is expected
 unfoldable pub print_expr : ℕ → Expr → List Token
 print_expr l (lit n) = number n ∷ []
 print_expr l (var i) = name i ∷ []
-print_expr l (invert e) = mark not-word ∷ print_expr 0 e
+print_expr l (invert e) = mark not_word ∷ print_expr 0 e
 print_expr l (binary o a b) = bracketed (nat_lt (strength o) l) (print_expr (suc (strength o)) a ++ (operator o ∷ print_expr (strength o) b))
 
 -- the tokens of a program
 unfoldable pub print : Stmt → List Token
 print skip = []
 print (seq s t) = print s ++ print t
-print (assign i e) = name i ∷ (mark assign-mark ∷ (print_expr 5 e ++ (mark semicolon ∷ [])))
-print (branch e s t) = mark if_word ∷ (print_expr 5 e ++ (mark then-word ∷ (print s ++ (mark else-word ∷ (print t ++ (mark end-word ∷ (mark semicolon ∷ [])))))))
-print (repeat n s) = mark repeat-word ∷ (number n ∷ (mark times-word ∷ (print s ++ (mark end-word ∷ (mark semicolon ∷ [])))))
-print (delay out counter e preset) = mark delay-word ∷ (name out ∷ (mark comma ∷ (name counter ∷ (mark comma ∷ (print_expr 5 e ++ (mark comma ∷ (number preset ∷ (mark semicolon ∷ []))))))))
+print (assign i e) = name i ∷ (mark assign_mark ∷ (print_expr 5 e ++ (mark semicolon ∷ [])))
+print (branch e s t) = mark if_word ∷ (print_expr 5 e ++ (mark then_word ∷ (print s ++ (mark else_word ∷ (print t ++ (mark end_word ∷ (mark semicolon ∷ [])))))))
+print (repeat n s) = mark repeat_word ∷ (number n ∷ (mark times_word ∷ (print s ++ (mark end_word ∷ (mark semicolon ∷ [])))))
+print (delay out counter e preset) = mark delay_word ∷ (name out ∷ (mark comma ∷ (name counter ∷ (mark comma ∷ (print_expr 5 e ++ (mark comma ∷ (number preset ∷ (mark semicolon ∷ []))))))))
 
 -- the trees that a text can have: statements chained to the right, to a skip at the end
 pub data Program : Stmt → Type 0 where

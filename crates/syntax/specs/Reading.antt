@@ -2,7 +2,7 @@
 use Rattle.std.specs.Prelude.{◌≡◌, ℕ, ◌+◌, List}
 use Rattle.std.proofs.Math.Option.{Option, none, some}
 use Rattle.lexer.specs.declared.Mark.{Mark}
-use Rattle.lexer.specs.declared.Mark.TheVariants.{Close as close-mark, Semicolon as semicolon, Comma as comma, Then as then-word}
+use Rattle.lexer.specs.declared.Mark.TheVariants.{Close as close_mark, Semicolon as semicolon, Comma as comma, Then as then_word}
 use Rattle.lexer.specs.declared.Token.{Token}
 use Rattle.syntax.specs.Ast.{Expr, Stmt}
 use Rattle.syntax.specs.Parser.{Above, Block, Pending, operand, operated, statement, name_read, repeat_read, rounds_read, delay_read, out_read, out_comma, counter_read, length_next, ended, step, begin, prefix, finish, on_else, on_end}
@@ -79,7 +79,7 @@ Finishes x m s t m' s' r = (p : Pending) (e : Expr) → Above p 5 → Operands p
 
 -- the mark that ends an expression, by the frame below it
 abbrev pub closer : Frame → Mark
-closer Bracket = close-mark
+closer Bracket = close_mark
 closer (RightOf o x) = comma
 closer Not = comma
 closer (Done x) = comma
@@ -87,7 +87,7 @@ closer (ThenIn x) = comma
 closer (ElseIn x y) = comma
 closer (RepeatIn n) = comma
 closer (AssignTo i) = semicolon
-closer ConditionIn = then-word
+closer ConditionIn = then_word
 closer (DelayIn i j) = comma
 
 -- a mark where a statement could begin, and those that close a block

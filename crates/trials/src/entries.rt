@@ -3,7 +3,7 @@ ghost use Rattle.std.specs.Prelude.{◌≡◌, [], ◌∷◌, OnOk};
 ghost use Rattle.base.specs.Stores.{cells};
 ghost use Rattle.semantics.specs.Eval.{Program};
 ghost use Rattle.compiler.specs.Right.{Compiled};
-ghost use Rattle.controller.specs.World.{outputs, start as start-event, scan as scan-event, force as force-event};
+ghost use Rattle.controller.specs.World.{outputs, start as start_event, scan as scan_event, force as force_event};
 ghost use Rattle.controller.specs.Story.{tale};
 ghost use Rattle.controller.specs.Decided.{decided};
 ghost use Rattle.controller.specs.Memory.{project};
@@ -47,7 +47,7 @@ fn first_scans(
     out: &mut [u64],
     writes: &mut [u64],
 ) -> Result<u64, Refusal>
-    ensures { OnOk result ((means : Program) → Compiled 64 means code.now → cells out.new ≡ outputs (tale (project kept inputs.now firsts.now means) (decided (project kept inputs.now firsts.now means) (scan-event (cells outside.now) 20 ∷ force-event 2 1 ∷ scan-event (cells outside.now) 10 ∷ start-event ∷ []))).live) }
+    ensures { OnOk result ((means : Program) → Compiled 64 means code.now → cells out.new ≡ outputs (tale (project kept inputs.now firsts.now means) (decided (project kept inputs.now firsts.now means) (scan_event (cells outside.now) 20 ∷ force_event 2 1 ∷ scan_event (cells outside.now) 10 ∷ start_event ∷ []))).live) }
 {
     works(kept, firsts, memory)?;
     start(kept, firsts, memory)?;

@@ -15,11 +15,11 @@ mod instructions;
 #[cfg(test)]
 mod lent;
 #[cfg(test)]
-mod listings;
+mod listing_texts;
 #[cfg(test)]
 mod machine;
 #[cfg(test)]
-mod messages;
+mod message_texts;
 #[cfg(test)]
 mod needs;
 #[cfg(test)]
@@ -33,6 +33,6 @@ mod retaining;
 #[cfg(test)]
 mod rooms;
 #[cfg(test)]
-mod scripts;
+mod script_plays;
 #[cfg(test)]
 mod texts;

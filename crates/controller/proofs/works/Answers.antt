@@ -1,6 +1,6 @@
 use Rattle.std.proofs.Common.{◌≡◌, ◌-◌, length, refl, ap, ◌∙◌, arith}
 use Rattle.base.proofs.Checks.{not_both}
-use Rattle.retain.specs.Device.{factory as new-device}
+use Rattle.retain.specs.Device.{factory as new_device}
 use Rattle.controller.proofs.Passed.{shape_taken}
 use Rattle.controller.proofs.Parts.{slice_length, part_device}
 use Rattle.controller.proofs.States.{device_same}
@@ -23,6 +23,6 @@ returns c =
         refl,
         new_done c.args.kept c.args.firsts.now c.power_off.new.memory (λ k h. c.power_off.ensures.inside k (omega arith) h)
             (device_same _ _ (λ k h. c.power_off.ensures.above k h) ∙ part_device m dev (omega (arith, fits.memory_long)) size ∙ c.in_ok-format.ensures.1.cells_are
-            ∙ ap (new-device c.args.kept) c.first_values-values.ensures),
+            ∙ ap (new_device c.args.kept) c.first_values-values.ensures),
       ),
     )

@@ -1,5 +1,5 @@
 use Rattle.std.proofs.Common.{◌≡◌, ◌+◌, ◌-◌, sym, subst, inl, inr, arith}
-use Rattle.lexer.specs.Outcome.{PlaceOfToken}
+use Rattle.lexer.specs.Outcome.{PlaceOfToken, EndsIfFewer}
 use Rattle.lexer.proofs.Passes.{Sofar, begun, passed_blank, passed_token}
 use Rattle.lexer.proofs.Beginnings.{begins, not_cut, too_few}
 use Rattle.lexer.proofs.cut.place.Goals as goal
@@ -11,10 +11,17 @@ pub loop-i-preserved-then-is_blank : goal.loop-i-preserved-then-is_blank
 loop-i-preserved-then-is_blank c = (passed_blank _ _ _ c.loop-i-test.true (sym c.if-is_blank.ensures) c.loop-i.invariant.0, c.loop-i.invariant.1)
 
 pub returns-then-n-index : goal.returns-then-n-index
-returns-then-n-index c = subst (λ n. PlaceOfToken c.args.text.now n c.loop-i.i) c.if-n-index.true (begins _ _ _ c.loop-i-test.true (sym c.if-is_blank.ensures) c.loop-i.invariant.0)
+returns-then-n-index c =
+    let at = begins _ _ _ c.loop-i-test.true (sym c.if-is_blank.ensures) c.loop-i.invariant.0 in
+    record {
+      begins = subst (λ n. PlaceOfToken c.args.text.now n c.loop-i.i) c.if-n-index.true at.0;
+      fewer = subst (λ n. EndsIfFewer c.args.text.now n c.loop-i.i) c.if-n-index.true at.1;
+    }
 
 pub returns-then-n-eq-MOST_TOKENS : goal.returns-then-n-eq-MOST_TOKENS
-returns-then-n-eq-MOST_TOKENS c = not_cut _ _ _ _ c.loop-i-test.true (sym c.if-is_blank.ensures) (inl c.if-n-eq-MOST_TOKENS.true) c.loop-i.invariant.0
+returns-then-n-eq-MOST_TOKENS c =
+    let none = not_cut _ _ _ c.args.index c.loop-i-test.true (sym c.if-is_blank.ensures) (inl c.if-n-eq-MOST_TOKENS.true) c.loop-i.invariant.0 in
+    record { begins = none.0; fewer = none.1 }
 
 pub loop-i-preserved : goal.loop-i-preserved
 loop-i-preserved c =
@@ -26,7 +33,11 @@ loop-i-preserved c =
     )
 
 pub returns-in-None : goal.returns-in-None
-returns-in-None c = not_cut _ _ _ _ c.loop-i-test.true (sym c.if-is_blank.ensures) (inr c.in-None.ensures) c.loop-i.invariant.0
+returns-in-None c =
+    let none = not_cut _ _ _ c.args.index c.loop-i-test.true (sym c.if-is_blank.ensures) (inr c.in-None.ensures) c.loop-i.invariant.0 in
+    record { begins = none.0; fewer = none.1 }
 
 pub returns : goal.returns
-returns c = too_few _ _ _ _ c.loop-i-test.false c.loop-i.invariant.1 c.loop-i.invariant.0
+returns c =
+    let none = too_few _ _ _ c.args.index c.loop-i-test.false c.loop-i.invariant.1 c.loop-i.invariant.0 in
+    record { begins = none.0; fewer = none.1 }

@@ -1,6 +1,6 @@
-use Rattle.std.proofs.Common.{◌≡◌, ◌+◌, ◌*◌, ◌/◌, ◌<◌, ◌++◌, length, sym, refl, ap, ◌∙◌, arith}
+use Rattle.std.proofs.Common.{◌++◌, sym, ap, ◌∙◌, arith}
 use Rattle.compiler.specs.Code.{code_in}
-use Rattle.listings.specs.ListingText.{code_text, needs_text, listed}
+use Rattle.listings.specs.ListingText.{code_text, listed}
 use Rattle.listings.proofs.Listings.{line_more, lines_all}
 use Rattle.listings.proofs.code.listing_text.Goals as goal
 

@@ -1,4 +1,4 @@
-use Rattle.std.proofs.Common.{◌≡◌, sym, ◌∙◌}
+use Rattle.std.proofs.Common.{sym, ◌∙◌}
 use Rattle.lines.specs.Reading.{left}
 use Rattle.messages.proofs.Places.{no_keyword}
 use Rattle.messages.proofs.place.keyword_place.Goals as goal

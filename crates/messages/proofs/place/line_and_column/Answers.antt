@@ -1,4 +1,4 @@
-use Rattle.std.proofs.Common.{◌≡◌, ◌+◌, ◌<◌, min, length, take, sym, refl, ap, ◌∙◌, arith}
+use Rattle.std.proofs.Common.{◌≡◌, ◌+◌, ◌<◌, min, length, take, refl, ap, ◌∙◌, arith}
 use Rattle.messages.specs.MessageText.{line_feeds, since_feed}
 use Rattle.messages.proofs.Places.{feed_counted, feed_passed, since_none, since_more, take_min}
 use Rattle.messages.proofs.place.line_and_column.Goals as goal

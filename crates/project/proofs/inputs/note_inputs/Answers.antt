@@ -1,4 +1,4 @@
-use Rattle.std.proofs.Common.{◌≡◌, ◌<◌, length, get_or, arith}
+use Rattle.std.proofs.Common.{◌<◌, length, arith}
 use Rattle.scripts.specs.declared.script.Input.{Input}
 use Rattle.project.proofs.Noted.{input_noted, input_passed, inputs_noted}
 use Rattle.project.proofs.inputs.note_inputs.Goals as goal

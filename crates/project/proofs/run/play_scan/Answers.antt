@@ -1,4 +1,4 @@
-use Rattle.std.proofs.Common.{◌≡◌, ℕ, ◌+◌, ◌*◌, not, ◌&&◌, List, [], ◌∷◌, take, replicate, vec_items, refl, ap, ◌∙◌, subst, ap₂, arith}
+use Rattle.std.proofs.Common.{ℕ, ◌+◌, ◌*◌, not, ◌&&◌, List, [], ◌∷◌, take, replicate, vec_items, refl, ap, ◌∙◌, subst, ap₂, arith}
 use Rattle.scripts.specs.Script.{scan}
 use Rattle.reports.specs.Reports.{scanned}
 use Rattle.project.specs.Running.{Goes}

@@ -1,4 +1,4 @@
-use Rattle.std.proofs.Common.{◌≡◌, ◌<◌, vec_items, ap, ◌∙◌, arith}
+use Rattle.std.proofs.Common.{◌<◌, vec_items, ap, ◌∙◌, arith}
 use Rattle.base.specs.Stores.{cells}
 use Rattle.project.proofs.Collected.{changed_more, changed_same, changed_all}
 use Rattle.project.proofs.settings.changed_settings.Goals as goal

@@ -2,7 +2,7 @@ use Rattle.std.proofs.Common.{vec_items, string_bytes, ap, ◌∙◌}
 use Rattle.std.specs.List.{flat_map}
 use Rattle.reports.specs.Reports.{line_of}
 use Rattle.project.proofs.Joins.{told_text}
-use Rattle.project.proofs.run.play_events.Goals as goal
+use Rattle.project.proofs.run.play_loaded.Goals as goal
 
 pub returns-in-Ok : goal.returns-in-Ok
 returns-in-Ok c =
