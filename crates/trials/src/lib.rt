@@ -1,4 +1,5 @@
 //! Trials of the parts and of the whole, from text to text, against numbers that were worked out by hand.
+#![tactic(auto)]
 
 #[cfg(test)]
 mod code;

@@ -60,10 +60,9 @@ pub fn never_trapped() -> u8
     0
 }
 
-/// The machine for C: runs code as `run` does, and answers 1 where the code's end was reached and
+/// The machine by a number: runs code as `run` does, and answers 1 where the code's end was reached and
 /// 0 where the run was trapped.
-#[unsafe(no_mangle)]
-pub extern "C" fn vm_run(code: &[u16], elapsed: u64, vars: &mut [u64], fault: &mut u64) -> u8
+pub fn vm_run(code: &[u16], elapsed: u64, vars: &mut [u64], fault: &mut u64) -> u8
     ensures vars { cells vars.new ≡ (program_of (length vars.old) code.now elapsed (values_of vars.old fault.old)).store }
     ensures fault { fault.new ≡ (program_of (length vars.old) code.now elapsed (values_of vars.old fault.old)).fault }
     ensures outcome { result ≡ ended (outcome_of (length vars.old) code.now elapsed (values_of vars.old fault.old)) }
