@@ -1,14 +1,15 @@
 -- Messages that point at a place. Assumes nothing.
-use Rattle.std.proofs.Common.{◌≡◌, ℕ, ◌+◌, ◌*◌, ◌/◌, min, false, eqb, List, length, IfOk, Ok, Err, vec_items, string_bytes, codes, Result, Vec, String, sym, refl, ap, ◌∙◌, subst, ap₂, subst₂, arith}
+use Rattle.std.proofs.Common.{◌≡◌, ℕ, ◌+◌, min, false, eqb, List, length, IfOk, Ok, Err, string_bytes, codes, Result, String, sym, refl, ap, ◌∙◌, subst, ap₂, subst₂}
 use Rattle.std.specs.declared.alloc.AllocError.{AllocError}
 use Rattle.std.specs.declared.alloc.Global.{Global}
 use Rattle.std.proofs.lemmas.Bool.{ne_eqb}
 use Rattle.base.specs.declared.Refusal.{Refusal}
 use Rattle.base.specs.declared.Refusal.TheVariants.{Token as BadToken, Program as NoProgram, Limit, Room, Length, Off, Time, Stamp, Point}
 use Rattle.lexer.specs.declared.Token.{Token}
-use Rattle.lexer.proofs.Cutting.{one_way}
-use Rattle.lexer.proofs.PairLaws.{pairs_length}
-use Rattle.loading.specs.Loading.{CutUp, CutInto}
+use Rattle.lexer.specs.Outcome.{Written, Refused}
+use Rattle.lexer.proofs.Cutting.{one_way, refused_rightly_lem}
+use Rattle.loading.specs.Loading.{CutUp}
+use Rattle.loading.proofs.Loads.{uncut}
 use Rattle.loading.specs.declared.load.Failure.{Failure}
 use Rattle.loading.specs.declared.load.Failure.TheVariants.{Memory, Header, Program, Script}
 use Rattle.messages.specs.MessageText.{message}
@@ -67,21 +68,30 @@ program_said (Ok s) file text e i at program same starts is h =
 program_said (Err x) file text e i at program same starts is h = tt
 
 -- so many tokens a text has
-count_is : (text : List ℕ) (v : Vec ℕ Global) (n : ℕ) → CutInto text (Ok v) → n ≡ length (vec_items v) → (ts : List Token) → CutUp text ts → n / 2 ≡ length ts
-count_is text v n c long ts up =
-    let same = one_way text c.0 ts c.2.cuts up.cuts in
-    let size : n ≡ 2 * length ts = long ∙ ap length c.1 ∙ pairs_length c.0 ∙ ap (λ (us : List Token). 2 * length us) same in
-    omega (arith, size)
+count_is : (text room room₁ : List ℕ) (n : ℕ) → Written text room room₁ n → (ts : List Token) → CutUp text ts → n ≡ length ts
+count_is text room room₁ n w ts up = sym w.count ∙ ap length (one_way text w.tokens ts w.cuts up.cuts)
 
-pub token_pointed : (r : Result (String Global) AllocError) (file text : List ℕ) (start : ℕ) (program : List ℕ) (i at : ℕ) (sentence : List ℕ) (v : Vec ℕ Global) (n : ℕ) → CutInto program (Ok v) → n ≡ length (vec_items v) →
-    TokenStands text program start (n / 2) i at → IfOk r (λ s. string_bytes s ≡ message file text at (NoProgram i) sentence) → IfOk r (λ s. Mismatched file text start program i (string_bytes s))
-token_pointed (Ok s) file text start program i at sentence v n c long stands is =
+pub token_pointed : (r : Result (String Global) AllocError) (file text : List ℕ) (start : ℕ) (program : List ℕ) (i at : ℕ) (sentence room room₁ : List ℕ) (n : ℕ) → Written program room room₁ n →
+    TokenStands text program start n i at → IfOk r (λ s. string_bytes s ≡ message file text at (NoProgram i) sentence) → IfOk r (λ s. Mismatched file text start program i (string_bytes s))
+token_pointed (Ok s) file text start program i at sentence room room₁ n w stands is =
     record {
       at = at;
       points = record { sentence = sentence; is = is };
-      stands = λ ts up. subst (λ (m : ℕ). TokenStands text program start m i at) (count_is program v n c long ts up) stands;
+      stands = λ ts up. subst (λ (m : ℕ). TokenStands text program start m i at) (count_is program room room₁ n w ts up) stands;
     }
-token_pointed (Err x) file text start program i at sentence v n c long stands is = tt
+token_pointed (Err x) file text start program i at sentence room room₁ n w stands is = tt
+
+-- a text that is refused is not cut into any tokens
+none : (text room : List ℕ) (e : Refusal) (ts : List Token) → length room ≡ 8192 → Refused text room e → CutUp text ts → ⊥
+none text room e ts size why up =
+    let broken = uncut text room e size why in
+    refused_rightly_lem text broken.0 (length ts) broken.2 (record { tokens = ts; cuts = up.cuts; count = refl; few = up.few })
+
+pub nowhere_pointed : (r : Result (String Global) AllocError) (file text : List ℕ) (start : ℕ) (program : List ℕ) (i at : ℕ) (sentence room : List ℕ) (e : Refusal) → length room ≡ 8192 → Refused program room e →
+    IfOk r (λ s. string_bytes s ≡ message file text at (NoProgram i) sentence) → IfOk r (λ s. Mismatched file text start program i (string_bytes s))
+nowhere_pointed (Ok s) file text start program i at sentence room e size why is =
+    record { at = at; points = record { sentence = sentence; is = is }; stands = λ ts up. absurd (none program room e ts size why up) }
+nowhere_pointed (Err x) file text start program i at sentence room e size why is = tt
 
 -- whatever is said of a program, it points somewhere
 program_points : (file text : List ℕ) (e : Refusal) (line : List ℕ) → ProgramSays file text e line → Points file text e line

@@ -6,9 +6,12 @@ use crate::place::{line_of, place_of_line};
 use crate::sentence::{header_words, limit_words, mismatch, uncut_words};
 use base::Refusal;
 use headers::header::read_project;
-use lexer::token_place;
-use loading::load::{Failure, tokens_of};
+use lexer::{token_place, tokenize};
+use loading::load::Failure;
 use std::alloc::{AllocError, Global};
+
+/// How many numbers the tokens of a program take at most.
+const TOKEN_ROOM: usize = 8192;
 
 /// Where in a project's text something in its program stands: the end of the text where that would be past it.
 fn place_within(text: &str, at: usize, place: usize) -> usize
@@ -55,14 +58,22 @@ fn mismatch_message(
 ) -> Result<String, AllocError>
     ensures { IfOk result (λ s. Mismatched file.now project.now at program.now index (string_bytes s)) }
 {
-    // refusal 2 comes only after the text was cut, so that nothing but memory can be wanting here
-    let Ok(tokens) = tokens_of(heap, program) else {
-        return Err(AllocError);
-    };
-    let sentence = mismatch(heap, tokens.as_slice(), index)?;
-    let place = place_of_token(project, at, program, tokens.len() / 2, index);
-    let refusal = Refusal::Program(index);
-    line_of(heap, file, project, place, refusal, sentence.as_str())
+    let mut room = [0; TOKEN_ROOM];
+    match tokenize(program, &mut room) {
+        Ok(count) => {
+            let tokens = &room[..2 * count as usize];
+            let sentence = mismatch(heap, tokens, index)?;
+            let place = place_of_token(project, at, program, count as usize, index);
+            let refusal = Refusal::Program(index);
+            line_of(heap, file, project, place, refusal, sentence.as_str())
+        }
+        // only callers that ask about another text come here: refusal 2 follows a text that was cut
+        Err(_) => {
+            let place = place_within(project, at, token_place(program, index));
+            let refusal = Refusal::Program(index);
+            line_of(heap, file, project, place, refusal, "this is no program")
+        }
+    }
 }
 
 /// Where a header is wrong: at the word that does not fit, or in its line `kept`.

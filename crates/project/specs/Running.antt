@@ -56,10 +56,11 @@ abbrev pub Told : (kept : ℕ) → (inputs firsts code : List ℕ) → List Line
 Told kept inputs firsts code lines told =
     (means : Program) → Compiled 64 means code → told ≡ tells (project kept inputs firsts means) (map request lines)
 
--- a project was put together of these parts, or there is no memory
+-- a project was put together of these parts; or there are too many kept variables; or there is no memory
 abbrev pub HasParts : (kept : ℕ) → (inputs firsts code : List ℕ) → Result Loaded RunError → Type 0
 HasParts kept inputs firsts code (Ok l) = (l.kept ≡ kept) × (l.inputs ≡ inputs) × (l.firsts ≡ firsts) × (vec_items l.code ≡ code)
-HasParts kept inputs firsts code (Err e) = e ≡ Memory
+HasParts kept inputs firsts code (Err Kept) = 64 < kept
+HasParts kept inputs firsts code (Err Memory) = Unit {0}
 
 -- a whole run: so it is with what is reported; or there are too many kept variables; or there is no memory
 abbrev pub Runs : (kept : ℕ) → (inputs firsts code : List ℕ) → List Line → Result (Vec Report Global) RunError → Type 0

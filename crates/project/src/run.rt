@@ -274,6 +274,9 @@ fn project_of(
 ) -> Result<Loaded, RunError>
     ensures { HasParts kept inputs.now firsts.now code.now result }
 {
+    if kept > VARIABLES as u64 {
+        return Err(RunError::Kept);
+    }
     match Vec::from_slice(heap, code) {
         Ok(code) => Ok(Loaded {
             kept,

@@ -9,7 +9,7 @@ use std::alloc::{AllocError, Global};
 use std::fmt;
 
 /// A variable and its value.
-#[derive(Clone, Copy)]
+#[derive(Clone, Copy, Debug, PartialEq)]
 pub struct Setting {
     pub variable: u8,
     pub value: u64,
@@ -26,7 +26,7 @@ impl fmt::Display for Setting {
 }
 
 /// What is told of an event.
-#[derive(Drop)]
+#[derive(Debug, Drop)]
 pub enum Report {
     /// Power came, and the kept variables were found so.
     Started(Vec<Setting>),

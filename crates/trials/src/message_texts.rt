@@ -1,5 +1,7 @@
 //! What people are told of projects and scripts that are refused: the whole line, with the place it points at.
 use crate::refusals::repeated;
+use base::Refusal;
+use project::load::Failure;
 use project::message::message;
 use project::play::play;
 use std::alloc::{AllocError, Global};
@@ -115,5 +117,17 @@ fn scripts_are_refused_at_a_line_and_a_column(rt: HostRuntime) -> Result<(), Fai
             expected.as_str()
         );
     }
+    Ok(())
+}
+
+/// A caller may ask about a text that is not even cut: the message points at its end.
+#[test]
+fn a_text_that_is_not_cut_is_no_program(rt: HostRuntime) -> Result<(), Fail> {
+    let failure = Failure::Program(Refusal::Program(0));
+    let line = message(rt.alloc(), "mill.plc", "program\n?", "", &failure)?;
+    assert_eq!(rt;
+        line.as_str(),
+        "mill.plc:2:2: refused 2 at 0: this is no program"
+    );
     Ok(())
 }
