@@ -4,11 +4,11 @@ use Rattle.std.specs.Option.{option_to_list}
 use Rattle.scripts.specs.Script.{Request}
 use Rattle.reports.specs.declared.report.Report.{Report}
 use Rattle.reports.specs.Reports.{Said, said}
-use Rattle.loading.specs.declared.load.Loaded.{Loaded}
 use Rattle.project.specs.declared.run.Panel.{Panel}
+use Rattle.project.specs.declared.run.Parts.{Parts}
 use Rattle.project.specs.Running.{Moves}
 
-module _ (l : Loaded) (m : List ℕ) (p : Panel) (m₁ : List ℕ) (p₁ : Panel) (r q : Request) (e : r ≡ q) where
+module _ (l : Parts) (m : List ℕ) (p : Panel) (m₁ : List ℕ) (p₁ : Panel) (r q : Request) (e : r ≡ q) where
   pub moves_as : (told : List Said) → Moves l q m p m₁ p₁ told → Moves l r m p m₁ p₁ told
   moves_as told h = subst (λ (y : Request). Moves l y m p m₁ p₁ told) (sym e) h
 

@@ -13,8 +13,8 @@ use Rattle.scripts.specs.Script.{Request, request, inputs_after}
 use Rattle.scripts.specs.declared.script.Input.{Input}
 use Rattle.scripts.specs.declared.script.Event.{Event as Line}
 use Rattle.reports.specs.declared.report.Report.{Report}
-use Rattle.loading.specs.declared.load.Loaded.{Loaded}
 use Rattle.project.specs.declared.run.Panel.{Panel}
+use Rattle.project.specs.declared.run.Parts.{Parts}
 use Rattle.project.specs.declared.run.RunError.{RunError}
 use Rattle.project.specs.declared.run.RunError.TheVariants.{Memory, Kept}
 use Rattle.reports.specs.Reports.{Said, said}
@@ -46,21 +46,15 @@ GoesNoted kept inputs firsts code line memory outside shown memory₁ shown₁ t
     (before : List ℕ) (named : List Input) → cells outside ≡ inputs_after (cells before) named →
     Goes kept inputs firsts code (line named) memory before shown memory₁ outside shown₁ told
 
--- a line was played of a project that is loaded, from one panel to another
-abbrev pub Moves : Loaded → Request → (memory : List ℕ) → Panel → (memory₁ : List ℕ) → Panel → List Said → Type 0
+-- a line was played of a project by its parts, from one panel to another
+abbrev pub Moves : Parts → Request → (memory : List ℕ) → Panel → (memory₁ : List ℕ) → Panel → List Said → Type 0
 Moves l r memory panel memory₁ panel₁ told =
-    Goes l.kept l.inputs l.firsts (vec_items l.code) r memory panel.outside panel.shown memory₁ panel₁.outside panel₁.shown told
+    Goes l.kept l.inputs.now l.firsts.now l.code.now r memory panel.outside panel.shown memory₁ panel₁.outside panel₁.shown told
 
 -- what is told is what the story tells, for every program that the code is right for
 abbrev pub Told : (kept : ℕ) → (inputs firsts code : List ℕ) → List Line → List Said → Type 0
 Told kept inputs firsts code lines told =
     (means : Program) → Compiled 64 means code → told ≡ tells (project kept inputs firsts means) (map request lines)
-
--- a project was put together of these parts; or there are too many kept variables; or there is no memory
-abbrev pub HasParts : (kept : ℕ) → (inputs firsts code : List ℕ) → Result Loaded RunError → Type 0
-HasParts kept inputs firsts code (Ok l) = (l.kept ≡ kept) × (l.inputs ≡ inputs) × (l.firsts ≡ firsts) × (vec_items l.code ≡ code)
-HasParts kept inputs firsts code (Err Kept) = 64 < kept
-HasParts kept inputs firsts code (Err Memory) = Unit {0}
 
 -- a whole run: so it is with what is reported; or there are too many kept variables; or there is no memory
 abbrev pub Runs : (kept : ℕ) → (inputs firsts code : List ℕ) → List Line → Result (Vec Report Global) RunError → Type 0

@@ -2,7 +2,7 @@
 ghost use Rattle.std.specs.Prelude.{◌≡◌};
 ghost use Rattle.project.specs.Loading.{EventsOf, failure_of, Plays};
 
-use crate::run::{RunError, play_loaded};
+use crate::run::{RunError, play_events};
 use base::Refusal;
 use lines::words::ReadError;
 use loading::load::{Failure, load};
@@ -36,7 +36,14 @@ pub fn play(heap: Global, project: &str, script: &str) -> Result<String, Failure
 {
     let loaded = load(heap, project)?;
     let events = events_of(heap, script)?;
-    match play_loaded(heap, &loaded, events.as_slice()) {
+    match play_events(
+        heap,
+        loaded.kept,
+        &loaded.inputs,
+        &loaded.firsts,
+        loaded.code.as_slice(),
+        events.as_slice(),
+    ) {
         Ok(text) => Ok(text),
         Err(error) => Err(failure_of(error)),
     }

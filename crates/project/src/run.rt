@@ -4,13 +4,12 @@ ghost use Rattle.controller.specs.Layout.{memory_length};
 ghost use Rattle.scripts.specs.Script.{request, start as start_line, scan as scan_line, cut as cut_line, force as force_line, free as free_line};
 ghost use Rattle.reports.specs.Reports.{said};
 ghost use Rattle.project.specs.declared.run.Panel.{Panel};
-ghost use Rattle.project.specs.Running.{Moves, Told, HasParts, Runs, Writes};
+ghost use Rattle.project.specs.Running.{Moves, Told, Runs, Writes};
 ghost use Rattle.std.specs.Option.{option_to_list};
 
 use crate::inputs::note_inputs;
 use crate::settings::*;
 use controller::{cut, force, free, scan, start, works};
-use loading::load::Loaded;
 use reports::report::{Report, refused, render};
 use scripts::script::{Event, Input};
 use std::alloc::{AllocError, Global};
@@ -34,6 +33,15 @@ pub enum RunError {
     Memory,
     /// More variables are kept than there are.
     Kept,
+}
+
+/// A project that is played: how many variables are kept, which come from outside, what each is at first, and the code.
+#[derive(Clone, Copy)]
+pub struct Parts<'a> {
+    pub kept: u64,
+    pub inputs: &'a [u8; VARIABLES],
+    pub firsts: &'a [u16; VARIABLES],
+    pub code: &'a [u16],
 }
 
 /// What people have before them: what was last said of each input, and what each variable last showed.
@@ -61,14 +69,15 @@ fn went_on(before: bool, after: bool) -> bool
 /// Power comes.
 fn play_start(
     heap: Global,
-    project: &Loaded,
+    project: &Parts<'_>,
     memory: &mut [u64],
     panel: &mut Panel,
 ) -> Result<Option<Report>, AllocError>
     requires { (project.now.kept ≤ 64) × (length memory.old ≡ memory_length project.now.kept) }
     ensures { IfOk result (λ o. Moves project.now start_line memory.old panel.old memory.new panel.new (map said (option_to_list o))) }
 {
-    if let Err(refusal) = start(project.kept, &project.firsts, memory) {
+    let firsts = project.firsts;
+    if let Err(refusal) = start(project.kept, firsts, memory) {
         return Ok(Some(refused(refusal)));
     }
     let values = values_in(memory);
@@ -80,7 +89,7 @@ fn play_start(
 /// A scan: what its line says of the inputs is noted, also where it is refused.
 fn play_scan(
     heap: Global,
-    project: &Loaded,
+    project: &Parts<'_>,
     elapsed: u64,
     named: &[Input],
     memory: &mut [u64],
@@ -89,6 +98,7 @@ fn play_scan(
     requires { (project.now.kept ≤ 64) × (length memory.old ≡ memory_length project.now.kept) }
     ensures { IfOk result (λ o. Moves project.now (scan_line elapsed named.now) memory.old panel.old memory.new panel.new (map said (option_to_list o))) }
 {
+    let (inputs, firsts, code) = (project.inputs, project.firsts, project.code);
     note_inputs(&mut panel.outside, named);
     let was_lit = lamp_lit(memory);
     let mut out = [0; VARIABLES];
@@ -96,9 +106,9 @@ fn play_scan(
     let end = 2 * (project.kept as usize + 2);
     match scan(
         project.kept,
-        &project.inputs,
-        &project.firsts,
-        project.code.as_slice(),
+        inputs,
+        firsts,
+        code,
         &panel.outside,
         elapsed,
         memory,
@@ -117,7 +127,7 @@ fn play_scan(
 
 /// A scan whose save is cut at a write, which leaves junk.
 fn play_cut(
-    project: &Loaded,
+    project: &Parts<'_>,
     elapsed: u64,
     at: u64,
     junk: u64,
@@ -128,12 +138,13 @@ fn play_cut(
     requires { (project.now.kept ≤ 64) × (length memory.old ≡ memory_length project.now.kept) }
     ensures { Moves project.now (cut_line elapsed at junk named.now) memory.old panel.old memory.new panel.new (map said (option_to_list result)) }
 {
+    let (inputs, firsts, code) = (project.inputs, project.firsts, project.code);
     note_inputs(&mut panel.outside, named);
     match cut(
         project.kept,
-        &project.inputs,
-        &project.firsts,
-        project.code.as_slice(),
+        inputs,
+        firsts,
+        code,
         &panel.outside,
         elapsed,
         at,
@@ -146,7 +157,7 @@ fn play_cut(
 }
 
 /// A point is forced.
-fn play_force(project: &Loaded, point: u64, number: u64, memory: &mut [u64]) -> Option<Report>
+fn play_force(project: &Parts<'_>, point: u64, number: u64, memory: &mut [u64]) -> Option<Report>
     requires { (project.now.kept ≤ 64) × (length memory.old ≡ memory_length project.now.kept) }
     ensures { (panel : Panel) → Moves project.now (force_line point number) memory.old panel memory.new panel (map said (option_to_list result)) }
 {
@@ -157,7 +168,7 @@ fn play_force(project: &Loaded, point: u64, number: u64, memory: &mut [u64]) -> 
 }
 
 /// A point is freed.
-fn play_free(project: &Loaded, point: u64, memory: &mut [u64]) -> Option<Report>
+fn play_free(project: &Parts<'_>, point: u64, memory: &mut [u64]) -> Option<Report>
     requires { (project.now.kept ≤ 64) × (length memory.old ≡ memory_length project.now.kept) }
     ensures { (panel : Panel) → Moves project.now (free_line point) memory.old panel memory.new panel (map said (option_to_list result)) }
 {
@@ -170,7 +181,7 @@ fn play_free(project: &Loaded, point: u64, memory: &mut [u64]) -> Option<Report>
 /// One event, and what is told of it.
 fn play_event(
     heap: Global,
-    project: &Loaded,
+    project: &Parts<'_>,
     event: &Event,
     memory: &mut [u64],
     panel: &mut Panel,
@@ -210,82 +221,26 @@ fn play_event(
 /// All events, in a memory of the right length.
 fn play_all(
     heap: Global,
-    project: &Loaded,
+    project: &Parts<'_>,
     events: &[Event],
     memory: &mut [u64],
 ) -> Result<Vec<Report>, AllocError>
     requires { (project.now.kept ≤ 64) × ((length memory.old ≡ memory_length project.now.kept) × (length events.now < 2 ^ 61)) }
-    ensures { IfOk result (λ v. Told project.now.kept project.now.inputs project.now.firsts project.now.code.items events.now (map said v.items)) }
+    ensures { IfOk result (λ v. Told project.now.kept project.now.inputs.now project.now.firsts.now project.now.code.now events.now (map said v.items)) }
 {
     let mut reports = Vec::new(heap);
     let mut panel = Panel {
         outside: [0; VARIABLES],
         shown: [0; VARIABLES],
     };
-    let _ = works(project.kept, &project.firsts, memory);
+    let firsts = project.firsts;
+    let _ = works(project.kept, firsts, memory);
     for event in events {
         if let Some(report) = play_event(heap, project, event, memory, &mut panel)? {
             reports.push(report)?;
         }
     }
     Ok(reports)
-}
-
-/// Plays the events of a project that is loaded: what is reported of them, in their order.
-fn run_loaded(heap: Global, project: &Loaded, events: &[Event]) -> Result<Vec<Report>, RunError>
-    ensures { Runs project.now.kept project.now.inputs project.now.firsts project.now.code.items events.now result }
-{
-    if project.kept > VARIABLES as u64 {
-        return Err(RunError::Kept);
-    }
-    if events.len() >= MANY {
-        return Err(RunError::Memory);
-    }
-    let mut memory = [0; MEMORY];
-    let end = 194 + 2 * (project.kept as usize + 2);
-    match play_all(heap, project, events, &mut memory[..end]) {
-        Ok(reports) => Ok(reports),
-        Err(_) => Err(RunError::Memory),
-    }
-}
-
-/// Plays the events of a project that is loaded, and writes what is reported of them, a line each.
-pub(crate) fn play_loaded(
-    heap: Global,
-    project: &Loaded,
-    events: &[Event],
-) -> Result<String, RunError>
-    ensures { Writes project.now.kept project.now.inputs project.now.firsts project.now.code.items events.now result }
-{
-    let reports = run_loaded(heap, project, events)?;
-    match render(heap, reports.as_slice()) {
-        Ok(text) => Ok(text),
-        Err(_) => Err(RunError::Memory),
-    }
-}
-
-/// A project of these parts.
-fn project_of(
-    heap: Global,
-    kept: u64,
-    inputs: &[u8; 64],
-    firsts: &[u16; 64],
-    code: &[u16],
-) -> Result<Loaded, RunError>
-    ensures { HasParts kept inputs.now firsts.now code.now result }
-{
-    if kept > VARIABLES as u64 {
-        return Err(RunError::Kept);
-    }
-    match Vec::from_slice(heap, code) {
-        Ok(code) => Ok(Loaded {
-            kept,
-            inputs: *inputs,
-            firsts: *firsts,
-            code,
-        }),
-        Err(_) => Err(RunError::Memory),
-    }
 }
 
 /// Plays events through a controller of its own: what is reported of them, in their order.
@@ -299,8 +254,24 @@ pub fn run_events(
 ) -> Result<Vec<Report>, RunError>
     ensures { Runs kept inputs.now firsts.now code.now events.now result }
 {
-    let project = project_of(heap, kept, inputs, firsts, code)?;
-    run_loaded(heap, &project, events)
+    if kept > VARIABLES as u64 {
+        return Err(RunError::Kept);
+    }
+    if events.len() >= MANY {
+        return Err(RunError::Memory);
+    }
+    let mut memory = [0; MEMORY];
+    let end = 194 + 2 * (kept as usize + 2);
+    let project = Parts {
+        kept,
+        inputs,
+        firsts,
+        code,
+    };
+    match play_all(heap, &project, events, &mut memory[..end]) {
+        Ok(reports) => Ok(reports),
+        Err(_) => Err(RunError::Memory),
+    }
 }
 
 /// Plays events through a controller of its own, and writes what is reported of them, a line each.
@@ -314,6 +285,9 @@ pub fn play_events(
 ) -> Result<String, RunError>
     ensures { Writes kept inputs.now firsts.now code.now events.now result }
 {
-    let project = project_of(heap, kept, inputs, firsts, code)?;
-    play_loaded(heap, &project, events)
+    let reports = run_events(heap, kept, inputs, firsts, code, events)?;
+    match render(heap, reports.as_slice()) {
+        Ok(text) => Ok(text),
+        Err(_) => Err(RunError::Memory),
+    }
 }
