@@ -120,14 +120,18 @@ fn scripts_are_refused_at_a_line_and_a_column(rt: HostRuntime) -> Result<(), Fai
     Ok(())
 }
 
-/// A caller may ask about a text that is not even cut: the message points at its end.
+/// A caller may ask about a text that is not even cut: the message points where the token would begin, or past
+/// the piece that is none at the end of the text.
 #[test]
 fn a_text_that_is_not_cut_is_no_program(rt: HostRuntime) -> Result<(), Fail> {
-    let failure = Failure::Program(Refusal::Program(0));
-    let line = message(rt.alloc(), "mill.plc", "program\n?", "", &failure)?;
-    assert_eq!(rt;
-        line.as_str(),
-        "mill.plc:2:2: refused 2 at 0: this is no program"
-    );
+    let cases = [
+        (0, "mill.plc:2:1: refused 2 at 0: this is no program"),
+        (1, "mill.plc:2:2: refused 2 at 1: this is no program"),
+    ];
+    for (index, expected) in cases {
+        let failure = Failure::Program(Refusal::Program(index));
+        let line = message(rt.alloc(), "mill.plc", "program\n?", "", &failure)?;
+        assert_eq!(rt; line.as_str(), expected);
+    }
     Ok(())
 }
