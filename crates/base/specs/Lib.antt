@@ -4,3 +4,4 @@ pub mod Delays
 pub mod Ops
 pub mod Rooms
 pub mod Refusals
+pub mod Texts

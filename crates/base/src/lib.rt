@@ -5,7 +5,11 @@ ghost use Rattle.std.specs.Prelude.{◌≡◌};
 ghost use Rattle.base.specs.Ops.{op_code, op_of};
 ghost use Rattle.base.specs.Refusals.{number_of, place_of};
 
+mod texts;
 pub mod words;
+
+/// How many variables a project has, and points: `v0` to `v63`.
+pub const VARIABLES: usize = 64;
 
 /// An operation with two sides.
 #[derive(Clone, Copy, Debug, PartialEq, Eq)]

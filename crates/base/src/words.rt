@@ -1,32 +1,35 @@
 //! Operations on words, the faults that they note, and the counting of delays.
 ghost use Rattle.std.specs.Prelude.{◌≡◌, ◌<◌, length};
 ghost use Rattle.base.specs.Delays.{delayed};
-ghost use Rattle.base.specs.Ops.{op_of};
 ghost use Rattle.base.specs.Stores.{cells};
 ghost use Rattle.base.specs.Words.{apply_op, op_fault, first_of};
 
-/// What operation number `op` gives at two numbers. They may be larger than words, so sums,
-/// differences and products are made of remainders: nothing passes 64 bits.
-pub fn apply_op(op: u16, x: u64, y: u64) -> u64
-    ensures { result ≡ apply_op (op_of op) x y }
-{
-    match op {
-        0 => (x % 65536 + y % 65536) % 65536,
-        1 => (x % 65536 + 65536u64.saturating_sub(y)) % 65536,
-        2 => (x % 65536) * (y % 65536) % 65536,
-        3 => { if y == 0 { 0 } else { x / y } }
-        4 => (x < y) as u64,
-        5 => (x == y) as u64,
-        6 => (x != 0 && y != 0) as u64,
-        _ => (x != 0 || y != 0) as u64,
-    }
-}
+use super::Op;
 
-/// The fault of operation number `op` at this right side: 1 where it divides by 0.
-pub fn op_fault(op: u16, y: u64) -> u64
-    ensures { result ≡ op_fault (op_of op) y }
-{
-    (op == 3 && y == 0) as u64
+impl Op {
+    /// What it gives at two numbers. They may be larger than words, so sums, differences and products
+    /// are made of remainders: nothing passes 64 bits.
+    pub fn apply(self, x: u64, y: u64) -> u64
+        ensures { result ≡ apply_op self x y }
+    {
+        match self {
+            Op::Add => (x % 65536 + y % 65536) % 65536,
+            Op::Sub => (x % 65536 + 65536u64.saturating_sub(y)) % 65536,
+            Op::Mul => (x % 65536) * (y % 65536) % 65536,
+            Op::Div => x.checked_div(y).unwrap_or(0),
+            Op::Less => (x < y) as u64,
+            Op::Equal => (x == y) as u64,
+            Op::And => (x != 0 && y != 0) as u64,
+            Op::Or => (x != 0 || y != 0) as u64,
+        }
+    }
+
+    /// The fault that it leads to at this right side: 1 where it divides by 0.
+    pub fn fault(self, y: u64) -> u64
+        ensures { result ≡ op_fault self y }
+    {
+        (self == Op::Div && y == 0) as u64
+    }
 }
 
 /// Notes a fault, or none; the first one stays.

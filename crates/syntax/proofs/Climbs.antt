@@ -72,7 +72,7 @@ at_loose l m s n d x c z h (right_of q a p) e o =
     stays l (right_of q a p) e (ap (λ (b : Bool). cond b (climb l p (binary q a e)) (right_of q a p, e)) (lt-leb (strength q) l (h q t.node t.is))) o
 
 pub climbs_on : (l : ℕ) (m m₁ m' : List ℕ) (s : List Frame) (n d x n' d' x' c y : ℕ) (q : Op) → d ≡ c + 1 → frame s c ≡ RightOf q y → strength q ≤ l →
-    Wrote m m₁ n (Binary (op_code q) y x) → Climbed l m₁ s (n + 1) c n m' n' d' x' → Climbed l m s n d x m' n' d' x'
+    Wrote m m₁ n (Binary q y x) → Climbed l m₁ s (n + 1) c n m' n' d' x' → Climbed l m s n d x m' n' d' x'
 unfolding climb Holds
 climbs_on l m m₁ m' s n d x n' d' x' c y q z k t w r (whole g) e o = absurd (omega (arith, top_whole g m s n d c o.frames z, ap sort k))
 climbs_on l m m₁ m' s n d x n' d' x' c y q z k t w r (bracket j p) e o = absurd (omega (arith, ap sort (top_bracket j p m s n d c o.frames z), ap sort k))

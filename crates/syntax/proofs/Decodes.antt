@@ -1,9 +1,8 @@
 -- A node that holds a tree is read as such. Assumes nothing.
 use Rattle.std.proofs.Common.{◌≡◌, ℕ, ◌+◌, ◌*◌, ◌<◌, Bool, true, false, cond, ◌&&◌, eqb, ltb, List, get_or, sym, refl, ap, ◌∙◌, subst, add-zero, arith, lt-ltb}
 use Rattle.std.proofs.lemmas.Bool.Decides.{nat_tests}
-use Rattle.base.specs.declared.Op.{Op}
-use Rattle.base.specs.declared.Op.TheVariants.{Add, Sub, Mul, Div, Less, Equal, And, Or}
-use Rattle.base.specs.Ops.{op_code}
+use Rattle.base.specs.Ops.{op_of}
+use Rattle.base.proofs.OpLaws.{op_code_lt, op_of_code}
 use Rattle.syntax.specs.Ast.{Expr, lit, var, invert, binary, Stmt, skip, assign, seq, branch, repeat, delay}
 use Rattle.syntax.specs.Tree.{cell, Holds, HoldsSetting, HoldsStmt}
 use Rattle.syntax.specs.Node.{node_of, Lower, IsExpr, IsStmt, IsSetting, Decoded}
@@ -21,26 +20,14 @@ lower i k a b c =
     (guarded i (eqb k 6 && ltb a i && ltb b i) _ _ (λ h. (grind (arith, nat_tests), grind (arith, nat_tests))) (guarded i (eqb k 7 && ltb a i && ltb b i && ltb c i) _ _ (λ h. (grind (arith, nat_tests), grind (arith, nat_tests), grind (arith, nat_tests))) (guarded i (eqb k 8 && ltb b i) _ _ (λ h. grind (arith, nat_tests))
     (guarded i (eqb k 9 && ltb c i) _ _ (λ h. grind (arith, nat_tests)) (guarded i (eqb k 10 && ltb a i) _ _ (λ h. grind (arith, nat_tests)) tt))))))))))
 
--- operators are numbered below 8
-pub op_small : (o : Op) → op_code o < 8
-unfolding op_code
-op_small Add = omega arith
-op_small Sub = omega arith
-op_small Mul = omega arith
-op_small Div = omega arith
-op_small Less = omega arith
-op_small Equal = omega arith
-op_small And = omega arith
-op_small Or = omega arith
-
 exprs : (m : List ℕ) (i : ℕ) (e : Expr) → Holds m i e → IsExpr m (node_of i (cell m i 0) (cell m i 1) (cell m i 2) (cell m i 3)) e
 unfolding Holds
 exprs m i (lit n) h = rw (h.0, h.1)
 exprs m i (var n) h = rw (h.0, h.1)
 exprs m i (invert e) h = rw (h.0, lt-ltb (cell m i 1) i h.1) (e, refl, h.2)
 exprs m i (binary o x y) h =
-    let small : cell m i 1 < 8 = omega (arith, h.1, op_small o) in
-    rw (h.0, lt-ltb (cell m i 1) 8 small, lt-ltb (cell m i 2) i h.2, lt-ltb (cell m i 3) i h.4) (o, x, y, h.1, refl, h.3, h.5)
+    let small : cell m i 1 < 8 = omega (arith, h.1, op_code_lt o) in
+    rw (h.0, lt-ltb (cell m i 1) 8 small, lt-ltb (cell m i 2) i h.2, lt-ltb (cell m i 3) i h.4) (x, y, ap (λ p. binary p x y) (sym (ap op_of h.1 ∙ op_of_code o)), h.3, h.5)
 
 stmts : (m : List ℕ) (i : ℕ) (s : Stmt) → HoldsStmt m i s → IsStmt m (node_of i (cell m i 0) (cell m i 1) (cell m i 2) (cell m i 3)) s
 unfolding HoldsStmt

@@ -1,5 +1,6 @@
 -- The parser's stack as frames, over trees that are laid out in nodes. Assumes nothing: these are definitions.
 use Rattle.std.specs.Prelude.{◌≡◌, ℕ, suc, ◌+◌, ◌*◌, ◌<◌, ◌≤◌, ◌⊎◌, List, [], ◌∷◌, slice_index, slice_index_or}
+use Rattle.base.specs.Ops.{op_code}
 use Rattle.syntax.specs.Ast.{Expr, Stmt, skip}
 use Rattle.syntax.specs.Parser.{Outer, top, then_in, else_in, repeat_in, Block, Goal, assign_to, condition_in, delay_in, Pending, whole, right_of, bracket, climb, inverts, closed}
 use Rattle.syntax.specs.Tree.{cell, Holds, HoldsStmt}
@@ -73,7 +74,7 @@ abbrev pub Wrote : (m m' : List ℕ) (i : ℕ) → Node → Type 0
 Wrote m m' i (Literal n) = Written m m' i 0 n 0 0
 Wrote m m' i (Variable v) = Written m m' i 1 v 0 0
 Wrote m m' i (NotNode a) = Written m m' i 2 a 0 0
-Wrote m m' i (Binary o a b) = Written m m' i 3 o a b
+Wrote m m' i (Binary o a b) = Written m m' i 3 (op_code o) a b
 Wrote m m' i Skip = Written m m' i 4 0 0 0
 Wrote m m' i (Assign v a) = Written m m' i 5 v a 0
 Wrote m m' i (Seq a b) = Written m m' i 6 a b 0

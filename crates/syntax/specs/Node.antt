@@ -1,7 +1,6 @@
 -- A node as it is read from its four numbers: what it is, and its children, which stand below it. Assumes nothing: these are definitions.
 use Rattle.std.specs.Prelude.{◌≡◌, ℕ, ◌<◌, cond, ◌&&◌, List, ◌==◌, nat_lt}
-use Rattle.base.specs.declared.Op.{Op}
-use Rattle.base.specs.Ops.{op_code}
+use Rattle.base.specs.Ops.{op_of}
 use Rattle.syntax.specs.Ast.{Expr, lit, var, invert, binary, Stmt, skip, assign, seq, branch, repeat, delay}
 use Rattle.syntax.specs.Tree.{cell, Holds, HoldsSetting, HoldsStmt}
 use Rattle.syntax.specs.declared.node.Node.{Node}
@@ -10,7 +9,7 @@ use Rattle.syntax.specs.declared.node.Node.TheVariants.{Literal, Variable, Not, 
 -- the node of four numbers at an index: its children stand below it
 abbrev pub node_of : (i kind a b c : ℕ) → Node
 node_of i k a b c =
-    cond (k == 0) (Literal a) (cond (k == 1) (Variable a) (cond (k == 2 && nat_lt a i) (Not a) (cond (k == 3 && nat_lt a 8 && nat_lt b i && nat_lt c i) (Binary a b c) (cond (k == 4) Skip (
+    cond (k == 0) (Literal a) (cond (k == 1) (Variable a) (cond (k == 2 && nat_lt a i) (Not a) (cond (k == 3 && nat_lt a 8 && nat_lt b i && nat_lt c i) (Binary (op_of a) b c) (cond (k == 4) Skip (
     cond (k == 5 && nat_lt b i) (Assign a b) (cond (k == 6 && nat_lt a i && nat_lt b i) (Seq a b) (cond (k == 7 && nat_lt a i && nat_lt b i && nat_lt c i) (Branch a b c) (cond (k == 8 && nat_lt b i) (Repeat a b) (
     cond (k == 9 && nat_lt c i) (Delay a b c) (cond (k == 10 && nat_lt a i) (Setting a b) Broken))))))))))
 
@@ -34,7 +33,7 @@ abbrev pub IsExpr : List ℕ → Node → Expr → Type 0
 IsExpr m (Literal n) e = e ≡ lit n
 IsExpr m (Variable n) e = e ≡ var n
 IsExpr m (Not a) e = (x : Expr) × (e ≡ invert x) × Holds m a x
-IsExpr m (Binary k a b) e = (o : Op) × (x : Expr) × (y : Expr) × (k ≡ op_code o) × (e ≡ binary o x y) × Holds m a x × Holds m b y
+IsExpr m (Binary o a b) e = (x : Expr) × (y : Expr) × (e ≡ binary o x y) × Holds m a x × Holds m b y
 IsExpr m Skip e = ⊥
 IsExpr m (Assign v a) e = ⊥
 IsExpr m (Seq a b) e = ⊥
@@ -48,7 +47,7 @@ abbrev pub IsStmt : List ℕ → Node → Stmt → Type 0
 IsStmt m (Literal n) s = ⊥
 IsStmt m (Variable n) s = ⊥
 IsStmt m (Not a) s = ⊥
-IsStmt m (Binary k a b) s = ⊥
+IsStmt m (Binary o a b) s = ⊥
 IsStmt m Skip s = s ≡ skip
 IsStmt m (Assign v a) s = (e : Expr) × (s ≡ assign v e) × Holds m a e
 IsStmt m (Seq a b) s = (x : Stmt) × (y : Stmt) × (s ≡ seq x y) × HoldsStmt m a x × HoldsStmt m b y

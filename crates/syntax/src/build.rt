@@ -26,7 +26,7 @@ pub(crate) fn put_node(nodes: &mut [u16; ROOM], i: u16, node: Node)
         Node::Literal(n) => write(nodes, i, 0, n, 0, 0),
         Node::Variable(v) => write(nodes, i, 1, v, 0, 0),
         Node::Not(a) => write(nodes, i, 2, a, 0, 0),
-        Node::Binary(op, a, b) => write(nodes, i, 3, op, a, b),
+        Node::Binary(op, a, b) => write(nodes, i, 3, op.number(), a, b),
         Node::Skip => write(nodes, i, 4, 0, 0, 0),
         Node::Assign(v, a) => write(nodes, i, 5, v, a, 0),
         Node::Seq(a, b) => write(nodes, i, 6, a, b, 0),

@@ -29,7 +29,7 @@ pub(crate) fn climb(
         if strength_of(op) > strength {
             return up;
         }
-        put_node(nodes, up.used, Node::Binary(op.number(), left, up.last));
+        put_node(nodes, up.used, Node::Binary(op, left, up.last));
         up = Top {
             used: up.used + 1,
             depth: below,

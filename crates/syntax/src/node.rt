@@ -2,14 +2,16 @@
 ghost use Rattle.std.specs.Prelude.{◌≡◌, ◌+◌, ◌*◌, slice_index};
 ghost use Rattle.syntax.specs.Node.{node_of, Decoded};
 
+use base::Op;
+
 /// A node, with the indices of its children; `Broken` is what stands for no tree.
 #[derive(Clone, Copy)]
 pub enum Node {
     Literal(u16),
     Variable(u16),
     Not(u16),
-    /// An operator's number, and its two sides.
-    Binary(u16, u16, u16),
+    /// An operator and its two sides.
+    Binary(Op, u16, u16),
     Skip,
     Assign(u16, u16),
     Seq(u16, u16),
@@ -31,7 +33,7 @@ fn decode(i: u16, kind: u16, a: u16, b: u16, c: u16) -> Node
         0 => Node::Literal(a),
         1 => Node::Variable(a),
         2 if a < i => Node::Not(a),
-        3 if a < 8 && b < i && c < i => Node::Binary(a, b, c),
+        3 if a < 8 && b < i && c < i => Node::Binary(Op::from_number(a), b, c),
         4 => Node::Skip,
         5 if b < i => Node::Assign(a, b),
         6 if a < i && b < i => Node::Seq(a, b),

@@ -30,7 +30,7 @@ loop-up-preserved c =
     let tight : strength r.op ≤ c.args.strength = rw (← c.strength_of.ensures.is) c.if-strength_of-strength.false in (
       omega (arith, i.0),
       λ m n d x k. i.1 m n d x
-          (climbs_on c.args.strength c.loop-up.nodes c.put_node.new.nodes m c.args.frames.now u.used u.depth u.last n d x (u.depth - 1) r.left r.op (omega arith) r.is tight (rw c.number.ensures at c.put_node.ensures) k),
+          (climbs_on c.args.strength c.loop-up.nodes c.put_node.new.nodes m c.args.frames.now u.used u.depth u.last n d x (u.depth - 1) r.left r.op (omega arith) r.is tight c.put_node.ensures k),
     )
 
 pub returns : goal.returns
