@@ -1,5 +1,7 @@
 -- The code of a tree, by the code of its parts. Assumes nothing.
 use Rattle.std.proofs.Common.{◌≡◌, ℕ, ◌-◌, ◌/◌, List, [], ◌∷◌, ◌++◌, sym, refl, ap}
+use Rattle.base.specs.declared.Op.{Op}
+use Rattle.base.specs.Ops.{op_code}
 use Rattle.syntax.specs.Ast.{Expr, Stmt}
 use Rattle.syntax.specs.Node.{IsExpr, IsStmt, IsSetting}
 use Rattle.syntax.specs.declared.node.Node.{Node}
@@ -24,11 +26,11 @@ module _ (t : List ℕ) {m m' : List ℕ} {at end : ℕ} where
   unfolding compile_expr word
   emit_not x p q e i = rw i.1 (p i.0 i.2 then q Instr.invert refl)
 
-  pub emit_binary : {m₁ m₂ : List ℕ} {p₁ p₂ : ℕ} (o x y : ℕ) → EmitsExpr t x m at m₁ p₁ → EmitsExpr t y m₁ p₁ m₂ p₂ → Puts 4 o 0 0 m₂ p₂ m' end →
+  pub emit_binary : {m₁ m₂ : List ℕ} {p₁ p₂ : ℕ} (o : Op) (x y k : ℕ) → k ≡ op_code o → EmitsExpr t x m at m₁ p₁ → EmitsExpr t y m₁ p₁ m₂ p₂ → Puts 4 k 0 0 m₂ p₂ m' end →
       (e : Expr) → IsExpr t (Binary o x y) e → Appends (compile_expr e) m at m' end
   unfolding compile_expr word
-  emit_binary o x y p q r e i =
-      rw i.4 (p i.1 i.5 then q i.2 i.6 then r (Instr.binary i.0) (ap (λ (k : ℕ). 4 ∷ k ∷ 0 ∷ 0 ∷ []) (sym i.3)))
+  emit_binary o x y k z p q r e i =
+      rw i.2 (p i.0 i.3 then q i.1 i.4 then r (Instr.binary o) (ap (λ (k : ℕ). 4 ∷ k ∷ 0 ∷ 0 ∷ []) (sym z)))
 
   -- statements
   pub emit_assign : {m₁ : List ℕ} {p₁ : ℕ} (v x : ℕ) → EmitsExpr t x m at m₁ p₁ → Puts 2 v 0 0 m₁ p₁ m' end → (s : Stmt) → IsStmt t (Assign v x) s → Appends (compile s) m at m' end

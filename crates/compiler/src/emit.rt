@@ -20,7 +20,7 @@ pub(crate) fn emit_expr(nodes: &[u16], i: u16, draft: &mut Draft)
         Node::Binary(op, x, y) => {
             emit_expr(nodes, x, draft);
             emit_expr(nodes, y, draft);
-            draft.put(4, op, 0, 0);
+            draft.put(4, op.number(), 0, 0);
         }
         _ => {}
     }

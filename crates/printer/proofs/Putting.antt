@@ -9,10 +9,8 @@ use Rattle.lexer.specs.declared.Mark.TheVariants.{Not as not_word, Open as open_
 use Rattle.syntax.specs.Grammar.{strength}
 use Rattle.syntax.specs.Printer.{bracketed, print_expr}
 use Rattle.base.specs.Rooms.{write}
-use Rattle.base.specs.Ops.{op_code, op_of}
 use Rattle.syntax.specs.Tree.{Holds}
 use Rattle.printer.specs.Printed.{Puts, PutsExpr}
-use Rattle.base.proofs.OpLaws.{op_of_code}
 use Rattle.base.proofs.RoomLaws.{write_append, length_write, write_two}
 use Rattle.lexer.proofs.PairLaws.{pairs_length}
 
@@ -68,19 +66,15 @@ put_not m l a p q e i = rw i.1 (p then q i.0 i.2)
 at_level : {room room' : List ℕ} {at end : ℕ} (j l : ℕ) (e : Expr) → j ≡ l → Puts (print_expr j e) room at end room' → Puts (print_expr l e) room at end room'
 at_level {room} {room'} {at} {end} j l e z p = subst (λ (x : ℕ). Puts (print_expr x e) room at end room') z p
 
-pub put_binary : (m : List ℕ) {room r₁ r₂ r₃ r₄ room' : List ℕ} {at p₁ p₂ p₃ p₄ end : ℕ} (l k s a b : ℕ) (q : Op) (bare : Bool) → q ≡ op_of k → s ≡ strength q → bare ≡ ltb s l →
-    Puts (cond bare [] (mark open_mark ∷ [])) room at p₁ r₁ → PutsExpr m a (s + 1) r₁ p₁ p₂ r₂ → Puts (operator q ∷ []) r₂ p₂ p₃ r₃ → PutsExpr m b s r₃ p₃ p₄ r₄ → Puts (cond bare [] (mark close_mark ∷ [])) r₄ p₄ end room' →
-    (e : Expr) → (o : Op) × (x : Expr) × (y : Expr) × (k ≡ op_code o) × (e ≡ binary o x y) × Holds m a x × Holds m b y → Puts (print_expr l e) room at end room'
+pub put_binary : (m : List ℕ) {room r₁ r₂ r₃ r₄ room' : List ℕ} {at p₁ p₂ p₃ p₄ end : ℕ} (l : ℕ) (o : Op) (s a b : ℕ) (bare : Bool) → s ≡ strength o → bare ≡ ltb s l →
+    Puts (cond bare [] (mark open_mark ∷ [])) room at p₁ r₁ → PutsExpr m a (s + 1) r₁ p₁ p₂ r₂ → Puts (operator o ∷ []) r₂ p₂ p₃ r₃ → PutsExpr m b s r₃ p₃ p₄ r₄ → Puts (cond bare [] (mark close_mark ∷ [])) r₄ p₄ end room' →
+    (e : Expr) → (x : Expr) × (y : Expr) × (e ≡ binary o x y) × Holds m a x × Holds m b y → Puts (print_expr l e) room at end room'
 unfolding print_expr
-put_binary m {room = room} {r₂ = r₂} {r₃ = r₃} {room' = room'} {at = at} {p₂ = p₂} {p₃ = p₃} {end = end} l k s a b q bare v z w h₁ h₂ h₃ h₄ h₅ e i =
-    let o = i.0 in
-    let same_op : q ≡ o = v ∙ ap op_of i.3 ∙ op_of_code o in
-    let strong : s ≡ strength o = z ∙ ap strength same_op in
-    let above : s + 1 ≡ suc (strength o) = omega (arith, strong) in
-    let left = at_level (s + 1) (suc (strength o)) i.1 above (h₂ i.1 i.5) in
-    let op : Puts (operator o ∷ []) r₂ p₂ p₃ r₃ = subst (λ (x : Op). Puts (operator x ∷ []) r₂ p₂ p₃ r₃) same_op h₃ in
-    let right = at_level s (strength o) i.2 strong (h₄ i.2 i.6) in
-    let body : List Token = print_expr (suc (strength o)) i.1 ++ (operator o ∷ print_expr (strength o) i.2) in
+put_binary m {room = room} {room' = room'} {at = at} {end = end} l o s a b bare z w h₁ h₂ h₃ h₄ h₅ e i =
+    let above : s + 1 ≡ suc (strength o) = omega (arith, z) in
+    let left = at_level (s + 1) (suc (strength o)) i.0 above (h₂ i.0 i.3) in
+    let right = at_level s (strength o) i.1 z (h₄ i.1 i.4) in
+    let body : List Token = print_expr (suc (strength o)) i.0 ++ (operator o ∷ print_expr (strength o) i.1) in
     let same : cond bare [] (mark open_mark ∷ []) ++ (body ++ cond bare [] (mark close_mark ∷ [])) ≡ bracketed (ltb (strength o) l) body =
-    surrounded bare body ∙ ap (λ (t : Bool). bracketed t body) (w ∙ ap (λ (x : ℕ). ltb x l) strong) in
-    subst (λ (ts : List Token). Puts ts room at end room') (same ∙ ap (print_expr l) (sym i.4)) (h₁ then ((left then op then right) then h₅))
+    surrounded bare body ∙ ap (λ (t : Bool). bracketed t body) (w ∙ ap (λ (x : ℕ). ltb x l) z) in
+    subst (λ (ts : List Token). Puts ts room at end room') (same ∙ ap (print_expr l) (sym i.2)) (h₁ then ((left then h₃ then right) then h₅))

@@ -6,13 +6,11 @@ use Rattle.lexer.specs.declared.Token.{Token}
 use Rattle.lexer.specs.declared.Token.TheVariants.{Operator as operator}
 use Rattle.syntax.specs.Grammar.{strength}
 use Rattle.syntax.specs.Printer.{bracketed, print_expr, print}
-use Rattle.base.specs.Ops.{op_code, op_of}
 use Rattle.syntax.specs.Tree.{Holds, HoldsSetting, HoldsStmt}
 use Rattle.printer.specs.Printed.{SizedExpr, SizedSetting, SizedStmt}
 use Rattle.syntax.specs.Node.{IsStmt}
 use Rattle.syntax.specs.declared.node.Node.{Node}
 use Rattle.syntax.specs.declared.node.Node.TheVariants.{Literal, Variable, Not, Binary, Skip, Assign, Seq, Branch, Repeat, Delay, Setting, Broken}
-use Rattle.base.proofs.OpLaws.{op_of_code}
 
 pub size_leaf : (l : ℕ) (e : Expr) (n : ℕ) → (e ≡ lit n) → 1 ≡ min (length (print_expr l e)) 65536
 unfolding print_expr
@@ -44,16 +42,14 @@ brackets_none s l b h z = rw (lt-ltb s l h) z
 pub brackets_two : (s l b : ℕ) → l ≤ s → b ≡ 2 → b ≡ cond (ltb s l) 0 2
 brackets_two s l b h z = rw (le-ltb s l h) z
 
-pub size_binary : (m : List ℕ) (l k s x y p q b : ℕ) → s ≡ strength (op_of k) → b ≡ cond (ltb s l) 0 2 → SizedExpr m x (s + 1) p → SizedExpr m y s q →
-    (e : Expr) → (o : Op) × (u : Expr) × (v : Expr) × (k ≡ op_code o) × (e ≡ binary o u v) × Holds m x u × Holds m y v → min (p + q + 1 + b) 65536 ≡ min (length (print_expr l e)) 65536
-size_binary m l k s x y p q b z c f g e i =
-    let o = i.0 in
-    let strong : s ≡ strength o = z ∙ ap (λ (j : ℕ). strength (op_of j)) i.3 ∙ ap strength (op_of_code o) in
-    let above : s + 1 ≡ suc (strength o) = omega (arith, strong) in
-    let left = f i.1 i.5 ∙ ap (λ (j : ℕ). min (length (print_expr j i.1)) 65536) above in
-    let right = g i.2 i.6 ∙ ap (λ (j : ℕ). min (length (print_expr j i.2)) 65536) strong in
-    let cost : b ≡ cond (ltb (strength o) l) 0 2 = c ∙ ap (λ (j : ℕ). cond (ltb j l) 0 2) strong in
-    omega (arith, ap (λ (t : Expr). length (print_expr l t)) i.4, binary_length l o i.1 i.2, left, right, cost)
+pub size_binary : (m : List ℕ) (l : ℕ) (o : Op) (s x y p q b : ℕ) → s ≡ strength o → b ≡ cond (ltb s l) 0 2 → SizedExpr m x (s + 1) p → SizedExpr m y s q →
+    (e : Expr) → (u : Expr) × (v : Expr) × (e ≡ binary o u v) × Holds m x u × Holds m y v → min (p + q + 1 + b) 65536 ≡ min (length (print_expr l e)) 65536
+size_binary m l o s x y p q b z c f g e i =
+    let above : s + 1 ≡ suc (strength o) = omega (arith, z) in
+    let left = f i.0 i.3 ∙ ap (λ (j : ℕ). min (length (print_expr j i.0)) 65536) above in
+    let right = g i.1 i.4 ∙ ap (λ (j : ℕ). min (length (print_expr j i.1)) 65536) z in
+    let cost : b ≡ cond (ltb (strength o) l) 0 2 = c ∙ ap (λ (j : ℕ). cond (ltb j l) 0 2) z in
+    omega (arith, ap (λ (t : Expr). length (print_expr l t)) i.2, binary_length l o i.0 i.1, left, right, cost)
 
 pub size_assign : (m : List ℕ) (v x r : ℕ) → SizedExpr m x 5 r → (s : Stmt) → (e : Expr) × (s ≡ assign v e) × Holds m x e → min (r + 3) 65536 ≡ min (length (print s)) 65536
 unfolding print

@@ -2,7 +2,6 @@
 ghost use Rattle.std.specs.Prelude.{◌≤◌};
 ghost use Rattle.printer.specs.Printed.{SizedExpr, SizedSetting, SizedStmt};
 
-use base::Op;
 use syntax::node::{Node, node_at};
 use syntax::strength_of;
 
@@ -18,8 +17,8 @@ fn size_expr(nodes: &[u16], i: u16, level: u16) -> u32
         Node::Literal(_n) => 1,
         Node::Variable(_v) => 1,
         Node::Not(x) => (size_expr(nodes, x, 0) + 1).min(MANY),
-        Node::Binary(number, x, y) => {
-            let strength = strength_of(Op::from_number(number));
+        Node::Binary(op, x, y) => {
+            let strength = strength_of(op);
             let left = size_expr(nodes, x, strength + 1);
             let right = size_expr(nodes, y, strength);
             let brackets = if strength < level { 0 } else { 2 };

@@ -5,7 +5,7 @@ ghost use Rattle.lexer.specs.declared.Token.TheVariants.{Name as name, Mark as a
 ghost use Rattle.printer.specs.Printed.{Puts, PutsExpr, PutsSetting, PutsStmt, Prints};
 
 use super::size::size_stmt;
-use base::{Op, Refusal};
+use base::Refusal;
 use lexer::{Mark, Token};
 use syntax::node::{Node, node_at};
 use syntax::{Tree, strength_of};
@@ -56,8 +56,7 @@ fn print_expr(nodes: &[u16], i: u16, level: u16, room: &mut [u16], at: usize) ->
             let next = put_mark(room, at, Mark::Not);
             print_expr(nodes, x, 0, room, next)
         }
-        Node::Binary(number, x, y) => {
-            let op = Op::from_number(number);
+        Node::Binary(op, x, y) => {
             let strength = strength_of(op);
             let begin = put_bracket(room, at, strength < level, Mark::Open);
             let middle = print_expr(nodes, x, strength + 1, room, begin);

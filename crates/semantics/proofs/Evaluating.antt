@@ -2,8 +2,7 @@
 use Rattle.std.proofs.Common.{◌≡◌, ℕ, zero, suc, ◌+◌, ◌-◌, ◌<◌, ◌≤◌, Bool, true, false, eqb, List, length, sym, refl, ap, ◌∙◌, zero-add, arith}
 use mir.Val.{bool_byte}
 use Rattle.base.specs.Delays.{delayed}
-use Rattle.base.specs.Ops.{op_of}
-use Rattle.base.proofs.OpLaws.{op_of_code}
+use Rattle.base.specs.declared.Op.{Op}
 use Rattle.base.specs.Stores.{Store, update, cells}
 use Rattle.base.specs.Words.{bit, truthy, apply_op, op_fault, first_of}
 use Rattle.syntax.specs.Ast.{Expr, Stmt, delay}
@@ -41,20 +40,19 @@ module _ (m vars : List ℕ) (fault : ℕ) where
       let q = p i.0 i.2 in
       rw i.1 (record { is = bit_is (eqb r 0) ∙ ap (λ (k : ℕ). bit (eqb k 0)) q.is; noted = q.noted })
 
-  pub value_binary : (o x y l r z f g h u : ℕ) → ValuesExpr m x vars fault l f → ValuesExpr m y vars f r g → u ≡ op_fault (op_of o) r → h ≡ first_of g u → z ≡ apply_op (op_of o) l r →
+  pub value_binary : (o : Op) (x y l r z f g h u : ℕ) → ValuesExpr m x vars fault l f → ValuesExpr m y vars f r g → u ≡ op_fault o r → h ≡ first_of g u → z ≡ apply_op o l r →
       (e : Expr) → IsExpr m (Binary o x y) e → Valued vars fault e z h
   unfolding eval faults
   value_binary o x y l r z f g h u p q fault-is noted-is is e i =
-      let a = p i.1 i.5 in
-      let b = q i.2 i.6 in
-      let op : op_of o ≡ i.0 = ap op_of i.3 ∙ op_of_code i.0 in
-      let c : u ≡ op_fault i.0 (eval 0 (cells vars) i.2) = fault-is ∙ (λ j. op_fault (op j) (b.is j)) in
-      let assoc = first_assoc fault (faults 0 (cells vars) i.1) (first_of (faults 0 (cells vars) i.2) u) in
-      let assoc₂ = first_assoc (first_of fault (faults 0 (cells vars) i.1)) (faults 0 (cells vars) i.2) u in
-      rw i.4 (record {
-        is = is ∙ (λ j. apply_op (op j) (a.is j) (b.is j));
-        noted = noted-is ∙ ap (λ (k : ℕ). first_of k u) (b.noted ∙ ap (λ (k : ℕ). first_of k (faults 0 (cells vars) i.2)) a.noted) ∙ assoc₂ ∙ assoc
-            ∙ ap (λ (k : ℕ). first_of fault (first_of (faults 0 (cells vars) i.1) (first_of (faults 0 (cells vars) i.2) k))) c;
+      let a = p i.0 i.3 in
+      let b = q i.1 i.4 in
+      let c : u ≡ op_fault o (eval 0 (cells vars) i.1) = fault-is ∙ ap (op_fault o) b.is in
+      let assoc = first_assoc fault (faults 0 (cells vars) i.0) (first_of (faults 0 (cells vars) i.1) u) in
+      let assoc₂ = first_assoc (first_of fault (faults 0 (cells vars) i.0)) (faults 0 (cells vars) i.1) u in
+      rw i.2 (record {
+        is = is ∙ (λ j. apply_op o (a.is j) (b.is j));
+        noted = noted-is ∙ ap (λ (k : ℕ). first_of k u) (b.noted ∙ ap (λ (k : ℕ). first_of k (faults 0 (cells vars) i.1)) a.noted) ∙ assoc₂ ∙ assoc
+            ∙ ap (λ (k : ℕ). first_of fault (first_of (faults 0 (cells vars) i.0) (first_of (faults 0 (cells vars) i.1) k))) c;
       })
 
 module _ (m : List ℕ) (elapsed : ℕ) (vars : List ℕ) (fault : ℕ) where

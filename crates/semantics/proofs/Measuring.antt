@@ -1,6 +1,7 @@
 -- What a tree needs, by what its parts need. Assumes nothing.
 use Rattle.std.proofs.Common.{◌≡◌, ℕ, zero, suc, ◌+◌, ◌*◌, min, List, refl, ap, ◌∙◌, ⊎_elim, suc-mul, zero-mul, arith}
 use Rattle.std.proofs.lemmas.Bool.{cases_lt}
+use Rattle.base.specs.declared.Op.{Op}
 use Rattle.syntax.specs.Ast.{Expr, lit, var, invert, binary, Stmt}
 use Rattle.syntax.specs.Node.{IsExpr, IsStmt}
 use Rattle.syntax.specs.declared.node.Node.{Node}
@@ -35,12 +36,12 @@ module _ (m : List ℕ) where
       let q = p i.0 i.2 in
       rw i.1 (record { cost = omega arith; height = q.height; depth = q.depth ∙ expr_flat i.0; reach = q.reach })
 
-  pub measure_binary : (o x y : ℕ) (q r : Needs) → MeasuredExpr m x q → MeasuredExpr m y r → (e : Expr) → IsExpr m (Binary o x y) e →
+  pub measure_binary : (o : Op) (x y : ℕ) (q r : Needs) → MeasuredExpr m x q → MeasuredExpr m y r → (e : Expr) → IsExpr m (Binary o x y) e →
       Measures (expr_need e) (one_more (followed_by q (raised r)))
   unfolding expr_need
   measure_binary o x y q r f g e i =
-      let a = f i.1 i.5 in let b = g i.2 i.6 in
-      rw i.4 (record { cost = omega arith; height = omega arith; depth = omega (arith, expr_flat i.1, expr_flat i.2); reach = omega arith })
+      let a = f i.0 i.3 in let b = g i.1 i.4 in
+      rw i.2 (record { cost = omega arith; height = omega arith; depth = omega (arith, expr_flat i.0, expr_flat i.1); reach = omega arith })
 
   -- statements
   pub measure_assign : (v x : ℕ) (r : Needs) → MeasuredExpr m x r → (s : Stmt) → IsStmt m (Assign v x) s →

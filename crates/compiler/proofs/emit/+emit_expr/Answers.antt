@@ -15,6 +15,6 @@ pub returns-in-Binary : goal.returns-in-Binary
 returns-in-Binary t c =
     record {
       grows = search rules;
-      emits = λ e h. emit_binary c.args.nodes.now c.in-Binary.op c.in-Binary.x c.in-Binary.y c.emit_expr-in-Binary.ensures.emits c.emit_expr-in-Binary-2.ensures.emits c.put-in-Binary.ensures.puts
+      emits = λ e h. emit_binary c.args.nodes.now c.in-Binary.op c.in-Binary.x c.in-Binary.y c.number.result c.number.ensures c.emit_expr-in-Binary.ensures.emits c.emit_expr-in-Binary-2.ensures.emits c.put-in-Binary.ensures.puts
           e (c.in-Binary.ensures.expr e h);
     }

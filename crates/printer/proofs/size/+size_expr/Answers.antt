@@ -1,6 +1,4 @@
 use Rattle.std.proofs.Common.{◌≡◌, cond, ltb, ap, ◌∙◌, arith}
-use Rattle.base.specs.Ops.{op_of}
-use Rattle.syntax.specs.Grammar.{strength}
 use Rattle.printer.proofs.Sizes.{size_leaf, size_name, size_not, brackets_none, brackets_two, size_binary}
 use Rattle.printer.proofs.size.+size_expr.Goals as goal
 use Rattle.printer.proofs.size.+size_expr.Goals.{then-strength-level, else-strength-level}
@@ -22,12 +20,11 @@ returns-after-strength-level t c =
       | then-strength-level w ↦ brackets_none s _ _ w.if-strength-level.true w.brackets-is
       | else-strength-level w ↦ brackets_two s _ _ w.if-strength-level.false w.brackets-is
     ] in
-    let strong : s ≡ strength (op_of c.in-Binary.number) = c.strength_of-strength.ensures.is ∙ ap strength c.from_number.ensures in
     record {
       small = omega arith;
       sized = λ e h. omega (
         arith,
-        size_binary c.args.nodes.now c.args.level c.in-Binary.number s c.in-Binary.x c.in-Binary.y c.size_expr-left.result c.size_expr-right.result c.if-strength-level.brackets strong b
+        size_binary c.args.nodes.now c.args.level c.in-Binary.op s c.in-Binary.x c.in-Binary.y c.size_expr-left.result c.size_expr-right.result c.if-strength-level.brackets c.strength_of-strength.ensures.is b
             c.size_expr-left.ensures.sized c.size_expr-right.ensures.sized e (c.in-Binary.ensures.expr e h),
       );
     }

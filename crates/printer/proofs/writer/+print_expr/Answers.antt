@@ -15,7 +15,7 @@ pub returns-in-Binary : goal.returns-in-Binary
 returns-in-Binary t c =
     record {
       within = c.put_bracket.ensures.within;
-      puts = λ e h. put_binary c.args.nodes.now c.args.level c.in-Binary.number c.strength_of-strength.result c.in-Binary.x c.in-Binary.y c.from_number-op.result _ c.from_number-op.ensures c.strength_of-strength.ensures.is refl
+      puts = λ e h. put_binary c.args.nodes.now c.args.level c.in-Binary.op c.strength_of-strength.result c.in-Binary.x c.in-Binary.y _ c.strength_of-strength.ensures.is refl
           c.put_bracket-begin.ensures.puts c.print_expr-middle.ensures.puts c.put-next.ensures.puts c.print_expr-end.ensures.puts c.put_bracket.ensures.puts
           e (c.in-Binary.ensures.expr e h);
     }
