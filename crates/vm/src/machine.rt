@@ -5,11 +5,12 @@ ghost use Rattle.compiler.specs.Instr.{Instr, push, load, store, invert, binary,
 ghost use Rattle.compiler.specs.Machine.{boot};
 ghost use Rattle.compiler.specs.Code.{instr_of, code_in};
 ghost use Rattle.vm.specs.Bounds.{bounded_steps};
-ghost use Rattle.vm.specs.State.{machine_of, Noted, Done, DoneInside};
+ghost use Rattle.vm.specs.State.{machine_of, Done, DoneInside};
 ghost use Rattle.vm.specs.Outcomes.{values_of};
 
 use crate::stack::Stack;
-use base::words::{apply_op, count_time};
+use base::Op;
+use base::words::{count_time, note};
 
 /// The numbers on a machine's stacks.
 #[derive(Drop)]
@@ -97,10 +98,9 @@ impl Vm {
     {
         let y = self.values.pop(&items.values);
         let x = self.values.pop(&items.values);
-        self.values.push(&mut items.values, apply_op(op, x, y));
-        if op == 3 && y == 0 {
-            self.note(1);
-        }
+        let op = Op::from_number(op);
+        self.values.push(&mut items.values, op.apply(x, y));
+        note(&mut self.fault, op.fault(y));
         true
     }
 
@@ -172,15 +172,6 @@ impl Vm {
         let on = self.values.pop(&items.values) != 0;
         count_time(elapsed, vars, out, counter, preset, on);
         true
-    }
-
-    /// Notes a fault; the first one stays.
-    fn note(&mut self, fault: u64)
-        ensures { Noted self.old fault self.new }
-    {
-        if self.fault == 0 {
-            self.fault = fault;
-        }
     }
 
     /// Does the instruction of four numbers, if it is allowed, and tells whether it was.
