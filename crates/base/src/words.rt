@@ -1,5 +1,6 @@
 //! Operations on words, the faults that they note, and the counting of delays.
 ghost use Rattle.std.specs.Prelude.{◌≡◌, ◌<◌, length};
+ghost use Rattle.base.specs.declared.Op.TheVariants.{Div};
 ghost use Rattle.base.specs.Delays.{delayed};
 ghost use Rattle.base.specs.Stores.{cells};
 ghost use Rattle.base.specs.Words.{apply_op, op_fault, first_of};
@@ -7,28 +8,36 @@ ghost use Rattle.base.specs.Words.{apply_op, op_fault, first_of};
 use super::Op;
 
 impl Op {
-    /// What it gives at two numbers. They may be larger than words, so sums, differences and products
-    /// are made of remainders: nothing passes 64 bits.
-    pub fn apply(self, x: u64, y: u64) -> u64
-        ensures { result ≡ apply_op self x y }
+    /// What it gives at two numbers, where a division by 0 notes its fault. They may be larger than words,
+    /// so sums, differences and products are made of remainders: nothing passes 64 bits.
+    pub fn apply(self, x: u64, y: u64, fault: &mut u64) -> u64
+        ensures value { result ≡ apply_op self x y }
+        ensures fault { fault.new ≡ first_of fault.old (op_fault self y) }
     {
         match self {
             Op::Add => (x % 65536 + y % 65536) % 65536,
             Op::Sub => (x % 65536 + 65536u64.saturating_sub(y)) % 65536,
             Op::Mul => (x % 65536) * (y % 65536) % 65536,
-            Op::Div => x.checked_div(y).unwrap_or(0),
+            Op::Div => quotient(x, y, fault),
             Op::Less => (x < y) as u64,
             Op::Equal => (x == y) as u64,
             Op::And => (x != 0 && y != 0) as u64,
             Op::Or => (x != 0 || y != 0) as u64,
         }
     }
+}
 
-    /// The fault that it leads to at this right side: 1 where it divides by 0.
-    pub fn fault(self, y: u64) -> u64
-        ensures { result ≡ op_fault self y }
-    {
-        (self == Op::Div && y == 0) as u64
+/// A quotient; by 0 it is 0, and the fault 1 is noted.
+fn quotient(x: u64, y: u64, fault: &mut u64) -> u64
+    ensures value { result ≡ apply_op Div x y }
+    ensures fault { fault.new ≡ first_of fault.old (op_fault Div y) }
+{
+    match x.checked_div(y) {
+        Some(value) => value,
+        None => {
+            note(fault, 1);
+            0
+        }
     }
 }
 

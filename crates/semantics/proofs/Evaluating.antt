@@ -40,13 +40,14 @@ module _ (m vars : List ℕ) (fault : ℕ) where
       let q = p i.0 i.2 in
       rw i.1 (record { is = bit_is (eqb r 0) ∙ ap (λ (k : ℕ). bit (eqb k 0)) q.is; noted = q.noted })
 
-  pub value_binary : (o : Op) (x y l r z f g h u : ℕ) → ValuesExpr m x vars fault l f → ValuesExpr m y vars f r g → u ≡ op_fault o r → h ≡ first_of g u → z ≡ apply_op o l r →
+  pub value_binary : (o : Op) (x y l r z f g h : ℕ) → ValuesExpr m x vars fault l f → ValuesExpr m y vars f r g → z ≡ apply_op o l r → h ≡ first_of g (op_fault o r) →
       (e : Expr) → IsExpr m (Binary o x y) e → Valued vars fault e z h
   unfolding eval faults
-  value_binary o x y l r z f g h u p q fault-is noted-is is e i =
+  value_binary o x y l r z f g h p q is noted-is e i =
       let a = p i.0 i.3 in
       let b = q i.1 i.4 in
-      let c : u ≡ op_fault o (eval 0 (cells vars) i.1) = fault-is ∙ ap (op_fault o) b.is in
+      let u = op_fault o r in
+      let c : u ≡ op_fault o (eval 0 (cells vars) i.1) = ap (op_fault o) b.is in
       let assoc = first_assoc fault (faults 0 (cells vars) i.0) (first_of (faults 0 (cells vars) i.1) u) in
       let assoc₂ = first_assoc (first_of fault (faults 0 (cells vars) i.0)) (faults 0 (cells vars) i.1) u in
       rw i.2 (record {

@@ -3,7 +3,7 @@ ghost use Rattle.std.specs.Prelude.{◌≡◌, ℕ, ◌<◌, ◌≤◌, length};
 ghost use Rattle.base.specs.Stores.{update, cells};
 ghost use Rattle.semantics.specs.Evaluated.{ValuesExpr, RunsDelay, RunsStmt};
 
-use base::words::{count_time, note};
+use base::words::count_time;
 use syntax::node::{Node, node_at};
 
 /// What a variable holds, 0 where there is none.
@@ -35,8 +35,7 @@ pub(crate) fn value(nodes: &[u16], i: u16, vars: &[u64], fault: &mut u64) -> u64
         Node::Binary(op, x, y) => {
             let left = value(nodes, x, vars, fault);
             let right = value(nodes, y, vars, fault);
-            note(fault, op.fault(right));
-            op.apply(left, right)
+            op.apply(left, right, fault)
         }
         _ => 0,
     }

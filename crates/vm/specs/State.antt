@@ -1,7 +1,6 @@
 -- The machine that a `Vm` and the variables stand for, and what an instruction does to it. Assumes nothing: these are definitions.
 use Rattle.std.specs.Prelude.{◌≡◌, ℕ, ◌+◌, Bool, cond, List, length}
 use Rattle.base.specs.Stores.{cells}
-use Rattle.base.specs.Words.{first_of}
 use Rattle.compiler.specs.Instr.{Instr}
 use Rattle.compiler.specs.Machine.{Machine, step}
 use Rattle.vm.specs.Bounds.{allowed}
@@ -43,7 +42,3 @@ Done elapsed i vm items vars vm₁ items₁ vars₁ told =
 abbrev pub DoneInside : Instr → (vm : Vm) (items : Items) (vm₁ : Vm) (items₁ : Items) → Bool → Type 0
 DoneInside i vm items vm₁ items₁ told =
     (size elapsed pc : ℕ) (vars : List ℕ) → vm.pc ≡ pc + 1 → Does size elapsed i (machine_at pc vm items vars) (machine_of vm₁ items₁ vars) told
-
--- a fault was noted where there was none before it, and nothing else changed
-abbrev pub Noted : Vm → (fault : ℕ) → Vm → Type 0
-Noted before f after = after ≡ record { pc = before.pc; values = before.values; control = before.control; base = before.base; fault = first_of before.fault f }

@@ -47,18 +47,14 @@ pub fn run(code: &[u16], elapsed: u64, vars: &mut [u64], fault: &mut u64) -> Out
 }
 
 /// Code that is right for a program is that program, from whatever values and however long after the last run.
-pub fn code_means() -> u8
+pub fn code_means()
     ensures { CodeMeans }
-{
-    0
-}
+{}
 
 /// Code that is right for a program comes to its end: no run of it is trapped or uses its budget up.
-pub fn never_trapped() -> u8
+pub fn never_trapped()
     ensures { NeverTrapped }
-{
-    0
-}
+{}
 
 /// The machine by a number: runs code as `run` does, and answers 1 where the code's end was reached and
 /// 0 where the run was trapped.

@@ -10,7 +10,7 @@ ghost use Rattle.vm.specs.Outcomes.{values_of};
 
 use crate::stack::Stack;
 use base::Op;
-use base::words::{count_time, note};
+use base::words::count_time;
 
 /// The numbers on a machine's stacks.
 #[derive(Drop)]
@@ -98,9 +98,8 @@ impl Vm {
     {
         let y = self.values.pop(&items.values);
         let x = self.values.pop(&items.values);
-        let op = Op::from_number(op);
-        self.values.push(&mut items.values, op.apply(x, y));
-        note(&mut self.fault, op.fault(y));
+        let value = Op::from_number(op).apply(x, y, &mut self.fault);
+        self.values.push(&mut items.values, value);
         true
     }
 

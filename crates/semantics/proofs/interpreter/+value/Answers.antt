@@ -13,5 +13,5 @@ returns-in-Not t c e h = value_not c.args.nodes.now c.args.vars.now c.args.fault
 pub returns-in-Binary : goal.returns-in-Binary
 returns-in-Binary t c e h =
     value_binary c.args.nodes.now c.args.vars.now c.args.fault.now c.in-Binary.op c.in-Binary.x c.in-Binary.y c.value-left.result c.value-right.result c.apply.result
-    c.value-left.new.fault c.value-right.new.fault c.note.new.fault c.fault.result
-    c.value-left.ensures c.value-right.ensures c.fault.ensures c.note.ensures c.apply.ensures e (c.in-Binary.ensures.expr e h)
+    c.value-left.new.fault c.value-right.new.fault c.apply.new.fault
+    c.value-left.ensures c.value-right.ensures c.apply.ensures.value c.apply.ensures.fault e (c.in-Binary.ensures.expr e h)
