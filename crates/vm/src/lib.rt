@@ -24,6 +24,18 @@ pub enum Outcome {
     Trapped,
 }
 
+impl From<Outcome> for u8 {
+    ghost from_gives = { λ outcome n. n ≡ ended outcome };
+
+    /// 1 where the code's end was reached, and 0 where the run was trapped.
+    fn from(outcome: Outcome) -> u8 {
+        match outcome {
+            Outcome::Finished => 1,
+            Outcome::Trapped => 0,
+        }
+    }
+}
+
 /// Runs `code`, four numbers to an instruction, on the variables, so long after the last run.
 pub fn run(code: &[u16], elapsed: u64, vars: &mut [u64], fault: &mut u64) -> Outcome
     ensures vars { cells vars.new ≡ (program_of (length vars.old) code.now elapsed (values_of vars.old fault.old)).store }
@@ -55,16 +67,3 @@ pub fn code_means()
 pub fn never_trapped()
     ensures { NeverTrapped }
 {}
-
-/// The machine by a number: runs code as `run` does, and answers 1 where the code's end was reached and
-/// 0 where the run was trapped.
-pub fn vm_run(code: &[u16], elapsed: u64, vars: &mut [u64], fault: &mut u64) -> u8
-    ensures vars { cells vars.new ≡ (program_of (length vars.old) code.now elapsed (values_of vars.old fault.old)).store }
-    ensures fault { fault.new ≡ (program_of (length vars.old) code.now elapsed (values_of vars.old fault.old)).fault }
-    ensures outcome { result ≡ ended (outcome_of (length vars.old) code.now elapsed (values_of vars.old fault.old)) }
-{
-    match run(code, elapsed, vars, fault) {
-        Outcome::Finished => 1,
-        Outcome::Trapped => 0,
-    }
-}

@@ -12,5 +12,5 @@ pub extern "C" fn vm_run(code: &[u16], elapsed: u64, vars: &mut [u64], fault: &m
     ensures fault { fault.new ≡ (program_of (length vars.old) code.now elapsed (values_of vars.old fault.old)).fault }
     ensures outcome { result ≡ ended (outcome_of (length vars.old) code.now elapsed (values_of vars.old fault.old)) }
 {
-    vm::vm_run(code, elapsed, vars, fault)
+    u8::from(vm::run(code, elapsed, vars, fault))
 }
