@@ -25,14 +25,14 @@ pub enum Op {
 }
 
 impl Op {
-    /// Its number in tokens, nodes and instructions.
+    /// Its number in tokens, nodes and instructions, which the definitions call by this name.
     pub fn number(self) -> u16
         ensures { result ≡ op_code self }
     {
         self as u16
     }
 
-    /// The operation of a number; from 7 on `Or`.
+    /// The operation of a number; from 7 on `Or`. No `TryFrom`: the machine gives a meaning to every number.
     pub fn from_number(number: u16) -> Op
         ensures { result ≡ op_of number }
     {

@@ -173,7 +173,8 @@ impl Vm {
         true
     }
 
-    /// Does the instruction of four numbers, if it is allowed, and tells whether it was.
+    /// Does the instruction of four numbers, if it is allowed, and tells whether it was. The kind is a number in a
+    /// local and no enum, by a rule of the project; the place is bounded anew for each instruction, since jumps add to it.
     fn step(
         &mut self,
         items: &mut Items,
