@@ -1,5 +1,5 @@
 -- A request that passes its checks is not refused.
-use Rattle.std.proofs.Common.{◌≡◌, ℕ, ◌+◌, ◌-◌, ◌≤◌, min, List, length, take, drop, None, Option, sym, ap, ◌∙◌, arith}
+use Rattle.std.proofs.Common.{◌≡◌, ℕ, ◌+◌, ◌-◌, ◌≤◌, min, List, length, take, drop, None, Option, sym, ap, ◌∙◌, subst, arith}
 use Rattle.base.specs.Stores.{cells}
 use Rattle.base.specs.Refusals.{or_else}
 use Rattle.retain.specs.Device.{cell_count, stamp}
@@ -7,12 +7,16 @@ use Rattle.retain.specs.Entry.{shape_refusal, stamp_refusal, commit_refusal as d
 use Rattle.retain.proofs.Shape.{well_shaped, accepted, accepted_cut}
 use Rattle.controller.specs.Layout.{memory_length}
 use Rattle.controller.specs.Memory.{device_in}
-use Rattle.controller.specs.Requests.{length_refusal, lists_refusal, ready_refusal, scan_refusal, cut_refusal, ListsFit}
+use Rattle.controller.specs.Requests.{length_refusal, lists_refusal, ready_refusal, scan_refusal, cut_refusal, ListsFit, Ready}
 use Rattle.controller.proofs.Parts.{slice_length, device_rest}
 
 -- what passed leaves it to the checks after it
 pub then : (x y : Option (ℕ × ℕ)) → x ≡ None → or_else x y ≡ y
 then x y e = ap (λ o. or_else o y) e
+
+-- what is told of a view of the memory is told of the memory
+pub ready_as : {elapsed : ℕ} {m m' : List ℕ} → m ≡ m' → (ready_refusal elapsed m ≡ None) × Ready elapsed m → (ready_refusal elapsed m' ≡ None) × Ready elapsed m'
+ready_as {elapsed} e h = subst (λ x. (ready_refusal elapsed x ≡ None) × Ready elapsed x) e h
 
 module _ (kept : ℕ) (m : List ℕ) (n : ℕ) (low : kept ≤ 64) (size : length m ≡ 194 + cell_count kept) (enough : kept ≤ n) where
   -- the device in the memory has the right shape

@@ -1,5 +1,5 @@
 -- The state that lent memory holds, and the histories that it stands for. Assumes nothing: these are definitions.
-use Rattle.std.specs.Prelude.{◌≡◌, ℕ, zero, suc, ◌+◌, Bool, cond, List, [], ◌∷◌, ◌==◌, slice_index}
+use Rattle.std.specs.Prelude.{◌≡◌, ℕ, zero, suc, ◌+◌, Bool, cond, List, [], ◌∷◌, Some, None, Option, ◌==◌, slice_index}
 use Rattle.base.specs.Stores.{Store, cells, region}
 use Rattle.semantics.specs.Eval.{Program}
 use Rattle.retain.specs.declared.Write.{Write}
@@ -25,6 +25,10 @@ live_in m =
       forced = marks (region m marks_from variables);
       force = region m forces_from variables;
     }
+
+-- what a point below 64 is forced to, if it is
+abbrev pub forced_in : (memory : List ℕ) → ℕ → Option ℕ
+forced_in m i = cond (slice_index m (marks_from + i) == 1) (Some (slice_index m (forces_from + i))) None
 
 -- what the program sees of a point below 64, by the lent numbers
 abbrev pub input_cell : (inputs outside memory : List ℕ) → ℕ → ℕ

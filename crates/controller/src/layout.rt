@@ -3,10 +3,10 @@ ghost use Rattle.std.specs.Prelude.{◌≡◌, min};
 ghost use Rattle.retain.specs.Device.{cell_count};
 ghost use Rattle.controller.specs.Layout.{memory_length};
 
-/// How many variables there are. Their values stand first.
-pub const VARIABLES: usize = 64;
+// The variables' values stand first.
+pub use base::VARIABLES;
 
-/// A mark for each point: 1 where it is forced.
+/// A mark for each point: 1 where it is forced. Marks are numbers, since the memory that C lends is one list of numbers.
 pub(crate) const FORCED: usize = VARIABLES;
 
 /// The numbers that points are forced to.

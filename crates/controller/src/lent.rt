@@ -1,25 +1,24 @@
-//! What is written to lent lists: values and zeros to the memory, writes to the list that they are handed out in.
-ghost use Rattle.std.specs.Prelude.{◌≡◌, ℕ, ◌*◌, ◌≤◌, length, take, slice_index};
+//! Lists of numbers: the values at first, and what is written to lent lists.
+ghost use Rattle.std.specs.Prelude.{◌≡◌, ℕ, ◌*◌, ◌≤◌, length, slice_index};
 ghost use Rattle.base.specs.Stores.{cells, Overwritten};
 ghost use Rattle.controller.specs.Memory.{writes_in};
 
 use crate::layout::*;
 use retain::Write;
 
-/// Writes the variables' values to the memory.
-pub(crate) fn store_values(memory: &mut [u64], values: &[u64])
-    requires { (length values.now ≡ 64) × (194 ≤ length memory.old) }
-    ensures { Overwritten 0 64 (cells values.now) memory.old memory.new }
+/// The values that the variables have at first.
+pub(crate) fn first_values(firsts: &[u16; VARIABLES]) -> [u64; VARIABLES]
+    ensures { cells result ≡ cells firsts.now }
 {
-    memory[0..VARIABLES].copy_from_slice(values);
+    firsts.map(|first| first as u64)
 }
 
-/// Writes 0 to the cells from `from` to before `to`.
-pub(crate) fn clear(memory: &mut [u64], from: usize, to: usize)
-    requires { (from ≤ to) × (to ≤ length memory.old) }
-    ensures { Overwritten from to (λ k. 0) memory.old memory.new }
+/// Writes the variables' values to the memory.
+pub(crate) fn store_values(memory: &mut [u64], values: &[u64; VARIABLES])
+    requires { 64 ≤ length memory.old }
+    ensures { Overwritten 0 64 (cells values.now) memory.old memory.new }
 {
-    memory[from..to].fill(0);
+    memory[..VARIABLES].copy_from_slice(values);
 }
 
 /// Power goes: nothing is left but the device.
@@ -27,17 +26,18 @@ pub(crate) fn power_off(memory: &mut [u64])
     requires { 194 ≤ length memory.old }
     ensures { Overwritten 0 194 (λ k. 0) memory.old memory.new }
 {
-    clear(memory, 0, DEVICE);
+    memory[..DEVICE].fill(0);
 }
 
-/// Hands out the first `n` writes of a list as pairs of numbers: the place in the device, and the number.
-pub(crate) fn hand_out(list: &[Write], n: usize, writes: &mut [u64])
-    requires { (n ≤ length list.now) × (2 * n ≤ length writes.old) }
-    ensures handed { writes_in writes.new 0 n ≡ take n list.now }
-    ensures beyond { (i : ℕ) → 2 * n ≤ i → slice_index writes.new i ≡ slice_index writes.old i }
+/// Hands out a list of writes as pairs of numbers: the place in the device, and the number.
+pub(crate) fn hand_out(list: &[Write], writes: &mut [u64])
+    requires { 2 * length list.now ≤ length writes.old }
+    ensures handed { writes_in writes.new 0 (length list.now) ≡ list.now }
+    ensures beyond { (i : ℕ) → 2 * length list.now ≤ i → slice_index writes.new i ≡ slice_index writes.old i }
 {
-    for i in 0..n {
-        writes[2 * i] = list[i].cell as u64;
-        writes[2 * i + 1] = list[i].value;
+    // By index: of a list that was lent in pairs by `chunks_exact_mut` a proof knows nothing but the length afterwards.
+    for (i, write) in list.iter().enumerate() {
+        writes[2 * i] = write.cell as u64;
+        writes[2 * i + 1] = write.value;
     }
 }

@@ -11,17 +11,17 @@ ghost use Rattle.controller.specs.Entries.{EachMeaning, New, Started, Forced, Fr
 
 use base::Refusal;
 use checks::*;
+use given::Given;
 use layout::*;
 use lent::*;
-use points::*;
+use memory::Memory;
 use retain::{Write, commit, commit_cut, format, recover};
-use run::run_program;
 
 mod checks;
+mod given;
 mod layout;
 mod lent;
-mod points;
-mod run;
+mod memory;
 
 pub use layout::{DEVICE, LAMP, MAX_DEVICE, MAX_MEMORY, VARIABLES, device_length, memory_length};
 
@@ -35,8 +35,7 @@ const MAX_WRITES: usize = VARIABLES + 2;
 pub fn works(kept: u64, firsts: &[u16], memory: &mut [u64]) -> Result<u64, Refusal>
     ensures { Answered result (start_refusal kept firsts.now memory.old) (λ n. (n ≡ 0) × New kept firsts.now memory.new) (memory.new ≡ memory.old) }
 {
-    check_start(kept, firsts, memory)?;
-    let values = first_values(firsts);
+    let values = first_values(check_start(kept, firsts, memory)?);
     format(kept as usize, &mut memory[DEVICE..], &values)?;
     power_off(memory);
     Ok(0)
@@ -46,11 +45,10 @@ pub fn works(kept: u64, firsts: &[u16], memory: &mut [u64]) -> Result<u64, Refus
 pub fn start(kept: u64, firsts: &[u16], memory: &mut [u64]) -> Result<u64, Refusal>
     ensures { Answered result (start_refusal kept firsts.now memory.old) (λ n. (n ≡ 0) × Started kept firsts.now memory.old memory.new) (memory.new ≡ memory.old) }
 {
-    check_start(kept, firsts, memory)?;
-    let mut values = first_values(firsts);
+    let mut values = first_values(check_start(kept, firsts, memory)?);
     recover(kept as usize, &memory[DEVICE..], &mut values)?;
     store_values(memory, &values);
-    clear(memory, FORCED, ON);
+    memory[FORCED..ON].fill(0);
     memory[ON] = 1;
     memory[LAMP] = 0;
     Ok(0)
@@ -60,12 +58,12 @@ pub fn start(kept: u64, firsts: &[u16], memory: &mut [u64]) -> Result<u64, Refus
 pub fn force(kept: u64, point: u64, number: u64, memory: &mut [u64]) -> Result<u64, Refusal>
     ensures { Answered result (force_refusal kept point number memory.old) (λ n. (n ≡ 0) × Forced point number memory.old memory.new) (memory.new ≡ memory.old) }
 {
-    check_point(kept, point, memory, 3)?;
+    let i = check_point(kept, point, memory, 3)?;
     if number > MAX_WORD {
         return Err(Refusal::Point(1));
     }
-    memory[FORCED + point as usize] = 1;
-    memory[FORCE + point as usize] = number;
+    memory[FORCED + i] = 1;
+    memory[FORCE + i] = number;
     Ok(0)
 }
 
@@ -73,8 +71,8 @@ pub fn force(kept: u64, point: u64, number: u64, memory: &mut [u64]) -> Result<u
 pub fn free(kept: u64, point: u64, memory: &mut [u64]) -> Result<u64, Refusal>
     ensures { Answered result (free_refusal kept point memory.old) (λ n. (n ≡ 0) × Freed point memory.old memory.new) (memory.new ≡ memory.old) }
 {
-    check_point(kept, point, memory, 2)?;
-    memory[FORCED + point as usize] = 0;
+    let i = check_point(kept, point, memory, 2)?;
+    memory[FORCED + i] = 0;
     Ok(0)
 }
 
@@ -94,16 +92,16 @@ pub fn scan(
 ) -> Result<u64, Refusal>
     ensures { Answered result (scan_refusal kept inputs.now firsts.now outside.now gone memory.old out.old writes.old) (λ n. EachMeaning code.now (λ q. Scanned (project kept inputs.now firsts.now q) (cells outside.now) gone memory.old writes.old memory.new out.new writes.new n)) ((memory.new ≡ memory.old) × (out.new ≡ out.old) × (writes.new ≡ writes.old)) }
 {
-    check_lists(kept, inputs, firsts, outside)?;
-    check_memory(kept, memory, 6)?;
+    let given = Given::new(kept, inputs, firsts, code, outside)?;
+    let held = Memory::new(kept, memory, 6)?;
     check_length(out.len(), VARIABLES, 7)?;
     check_length(writes.len(), device_length(kept), 8)?;
-    check_ready(gone, memory)?;
-    let ran = run_program(inputs, code, outside, gone, memory);
-    let shown = output_points(memory, &ran.values);
+    held.check_ready(gone)?;
+    let ran = given.run(gone, held);
+    let shown = held.outputs(&ran.values);
     let mut list = [NONE; MAX_WRITES];
     let n = commit(kept as usize, &mut memory[DEVICE..], &ran.values, &mut list)?;
-    hand_out(&list, n, writes);
+    hand_out(&list[..n], writes);
     store_values(memory, &ran.values);
     memory[LAMP] = ran.lamp as u64;
     out.copy_from_slice(&shown);
@@ -124,54 +122,42 @@ pub fn cut(
 ) -> Result<u64, Refusal>
     ensures { Answered result (cut_refusal kept inputs.now firsts.now outside.now gone memory.old) (λ n. (n ≡ 0) × EachMeaning code.now (λ q. CutOff (project kept inputs.now firsts.now q) (cells outside.now) gone k junk memory.old memory.new)) (memory.new ≡ memory.old) }
 {
-    check_lists(kept, inputs, firsts, outside)?;
-    check_memory(kept, memory, 8)?;
-    check_ready(gone, memory)?;
-    let ran = run_program(inputs, code, outside, gone, memory);
+    let given = Given::new(kept, inputs, firsts, code, outside)?;
+    let held = Memory::new(kept, memory, 8)?;
+    held.check_ready(gone)?;
+    let ran = given.run(gone, held);
     commit_cut(kept as usize, &mut memory[DEVICE..], &ran.values, k, junk)?;
     power_off(memory);
     Ok(0)
 }
 
 /// After every history the controller is as the story says, told without slots and stamps: what it shows, and what a start would find.
-pub fn kept_values_survive() -> u8
+pub fn kept_values_survive()
     ensures { Survives }
-{
-    0
-}
+{}
 
 /// A finished scan saves; a cut leaves what a start would have found before it or what it was to save: the first before the last write, the second
 /// after it, and in that write either.
-pub fn scans_save_and_cuts_choose() -> u8
+pub fn scans_save_and_cuts_choose()
     ensures { Ruled }
-{
-    0
-}
+{}
 
 /// A start finds the kept values, and everything else as at first.
-pub fn start_finds_kept_values() -> u8
+pub fn start_finds_kept_values()
     ensures { StartFinds }
-{
-    0
-}
+{}
 
 /// A forced point shows its number until it is freed or the power goes.
-pub fn forced_points_stay() -> u8
+pub fn forced_points_stay()
     ensures { ForceStays }
-{
-    0
-}
+{}
 
 /// Values, outputs and kept values are words, after every history that brings words.
-pub fn words_stay_words() -> u8
+pub fn words_stay_words()
     ensures { WordsStay }
-{
-    0
-}
+{}
 
 /// A stamp rises by at most one with an event: at a hundred scans a second it is refused after more than a billion years.
-pub fn stamps_last() -> u8
+pub fn stamps_last()
     ensures { StampsLast }
-{
-    0
-}
+{}

@@ -1,20 +1,16 @@
 -- From slices to stores: a slice's `set` is a store's `update`, and one write of a list of writes.
-use Rattle.std.proofs.Common.{◌≡◌, ℕ, zero, suc, ◌+◌, ◌-◌, ◌<◌, ◌≤◌, Bool, true, false, cond, eqb, List, [], ◌∷◌, ◌++◌, length, get_or, take, drop, set, Some, None, sym, refl, ap, ◌∙◌, subst, ap₂, inl, inr, append_assoc, arith, drop-drop, drop-set-lt}
+use Rattle.std.proofs.Common.{◌≡◌, ℕ, zero, suc, ◌+◌, ◌-◌, ◌<◌, ◌≤◌, Bool, true, false, cond, not, eqb, List, [], ◌∷◌, ◌++◌, length, get_or, take, drop, set, sym, refl, ap, ◌∙◌, subst, ap₂, inl, inr, append_assoc, arith, drop-drop, drop-set-lt}
 use Rattle.std.proofs.lemmas.List.{take_more_set, drop_more, drop_all, length-append}
-use Rattle.std.proofs.lemmas.Bool.{cond-true, cond-false, eqb-true, eq-eqb, ne_eqb, cases_eq}
+use Rattle.std.proofs.lemmas.Bool.{not-true, not-false, cond-true, cond-false, eqb-true, eq-eqb, ne_eqb, cases_eq}
 use Rattle.retain.specs.declared.Write.{Write}
 use Rattle.retain.specs.declared.slots.Target.{Target}
 use Rattle.base.specs.Stores.{Store, cells, update}
-use Rattle.retain.specs.Device.{stamp, slot_writes, commit_writes, value_writes, apply_writes, cut_writes, effective_writes}
-use Rattle.retain.specs.Entry.{Next, slot_write, CutCell}
+use Rattle.retain.specs.Device.{cell_count, slot_base, current, stamp, slot_writes, commit_writes, value_writes, apply_writes, cut_writes, effective_writes}
+use Rattle.retain.specs.Commit.{planned}
+use Rattle.retain.specs.Entry.{Next, slot_write, WriteCell}
 use Rattle.base.proofs.StoreLaws.{cells_set}
-use Rattle.retain.proofs.Writes.{cut_skip}
-
--- the writes of a commit to a target: the stamp, the values, the stamp
-abbrev pub planned : ℕ → Target → Store → List Write
-planned kept t v =
-    record { cell = t.cell; value = t.stamp }
-    ∷ (value_writes (t.cell + 1) v 0 kept ++ (record { cell = t.cell + 1 + kept; value = t.stamp } ∷ []))
+use Rattle.retain.proofs.Shape.{slot_low}
+use Rattle.retain.proofs.Writes.{Within, within_append, values_within, cut_skip}
 
 pub planned_is : (kept : ℕ) (d v : Store) (t : Target) → Next kept d t → commit_writes kept d v ≡ planned kept t v
 unfolding commit_writes slot_writes
@@ -55,13 +51,30 @@ planned_at kept t v e (suc m) l =
           (ap v (omega arith) ∙ sym (written kept t v m ∙ cond-false (eqb (suc m) (kept + 1)) t.stamp (v (suc m - 1)) (ne_eqb (suc m) (kept + 1) (λ x. q (omega arith)))))
     ]
 
--- the writes that are still to come: one more, and none
+-- the writes that are still to come: the next one and those after it, and none
 pub to_come_more : (kept : ℕ) (t : Target) (v : Store) (i : ℕ) → i < kept + 2 → drop i (planned kept t v) ≡ slot_write kept t v i ∷ drop (i + 1) (planned kept t v)
 to_come_more kept t v i l =
     drop_more (planned kept t v) i (slot_write kept t v i) (omega (arith, planned_length kept t v)) ∙ ap (λ w. w ∷ drop (i + 1) (planned kept t v)) (planned_at kept t v (slot_write kept t v i) i l)
 
-pub to_come_none : (kept : ℕ) (t : Target) (v : Store) (i : ℕ) → kept + 2 ≤ i → drop i (planned kept t v) ≡ []
+pub to_come_none : (kept : ℕ) (t : Target) (v : Store) (i : ℕ) → i ≡ kept + 2 → drop i (planned kept t v) ≡ []
 to_come_none kept t v i l = drop_all i (planned kept t v) (omega (arith, planned_length kept t v))
+
+pub next_to_come : (kept : ℕ) (t : Target) (v : Store) (i : ℕ) (w : Write) → i < kept + 2 → w ≡ slot_write kept t v i → drop i (planned kept t v) ≡ w ∷ drop (i + 1) (planned kept t v)
+next_to_come kept t v i w l e = to_come_more kept t v i l ∙ ap (λ x. x ∷ drop (i + 1) (planned kept t v)) (sym e)
+
+-- a commit writes to the cells of its device, as often as there are cells in a slot
+pub commit_within : (kept : ℕ) (d v : Store) → Within 0 (cell_count kept) (commit_writes kept d v)
+unfolding commit_writes slot_writes
+commit_within kept d v =
+    let low : slot_base kept (not (current kept d)) ≤ kept + 2 = slot_low kept (not (current kept d)) in (
+      omega arith,
+      omega arith,
+      within_append _ _ _ _ (values_within 0 (cell_count kept) _ v 0 kept (omega arith) (omega arith)) (omega arith, omega arith, tt),
+    )
+
+pub commit_length : (kept : ℕ) (d v : Store) → length (commit_writes kept d v) ≡ kept + 2
+unfolding commit_writes slot_writes
+commit_length kept d v = omega (arith, length-append (value_writes (slot_base kept (not (current kept d)) + 1) v 0 kept) (record { cell = slot_base kept (not (current kept d)) + 1 + kept; value = suc (stamp kept d) } ∷ []), values_length (slot_base kept (not (current kept d)) + 1) v 0 kept)
 
 -- m writes are noted, and ws are still to come: the device will be end, and all the writes will be noted
 pub record Going (end : Store) (all : List Write) (room : List Write) (d : List ℕ) (noted : List Write) (m : ℕ) (ws : List Write) : Type 0 where
@@ -69,16 +82,18 @@ pub record Going (end : Store) (all : List Write) (room : List Write) (d : List 
   pub writes : take m noted ++ effective_writes (cells d) ws ≡ all
   pub beyond : drop m noted ≡ drop m room
 
-module _ (end : Store) (all room : List Write) (d : List ℕ) (noted : List Write) (m : ℕ) (w : Write) (ws : List Write) (lc : w.cell < length d) (lm : m < length noted) where
-  step : (b : Bool) → eqb (get_or d w.cell 0) w.value ≡ b → Going end all room d noted m (w ∷ ws) →
-      Going end all room (cond b d (set d w.cell w.value)) (cond b noted (set noted m w)) (cond b m (m + 1)) ws
+module _ (end : Store) (all room : List Write) (d : List ℕ) (noted : List Write) (m : ℕ) (w : Write) (ws : List Write) where
+  step_held : eqb (get_or d w.cell 0) w.value ≡ true → Going end all room d noted m (w ∷ ws) → Going end all room d noted m ws
   unfolding apply_writes effective_writes
-  step true e g = record {
+  step_held e g = record {
     device = sym (cond-true (eqb (get_or d w.cell 0) w.value) (apply_writes (cells d) ws) (apply_writes (update (cells d) w.cell w.value) ws) e) ∙ g.device;
     writes = ap (λ x. take m noted ++ x) (sym (cond-true (eqb (get_or d w.cell 0) w.value) (effective_writes (cells d) ws) (w ∷ effective_writes (update (cells d) w.cell w.value) ws) e)) ∙ g.writes;
     beyond = g.beyond;
   }
-  step false e g = record {
+
+  step_done : w.cell < length d → m < length noted → eqb (get_or d w.cell 0) w.value ≡ false → Going end all room d noted m (w ∷ ws) → Going end all room (set d w.cell w.value) (set noted m w) (m + 1) ws
+  unfolding apply_writes effective_writes
+  step_done lc lm e g = record {
     device = ap (λ s. apply_writes s ws) (cells_set d w.cell w.value lc)
         ∙ sym (cond-false (eqb (get_or d w.cell 0) w.value) (apply_writes (cells d) ws) (apply_writes (update (cells d) w.cell w.value) ws) e) ∙ g.device;
     writes = ap (λ t. t ++ effective_writes (cells (set d w.cell w.value)) ws) (take_more_set noted m w lm)
@@ -89,32 +104,20 @@ module _ (end : Store) (all room : List Write) (d : List ℕ) (noted : List Writ
     beyond = drop-set-lt (m + 1) noted m w (omega arith) ∙ sym (drop-drop 1 m noted) ∙ ap (drop 1) g.beyond ∙ drop-drop 1 m room;
   }
 
--- the same, of what `write_cell` leaves
-pub wrote : {end : Store} {all room : List Write} {d : List ℕ} {noted : List Write} {m : ℕ} {w : Write} {ws : List Write} {d' : List ℕ} {noted' : List Write} {m' : ℕ} →
-    Going end all room d noted m (w ∷ ws) → w.cell < length d → m < length noted →
-    m' ≡ cond (eqb (get_or d w.cell 0) w.value) m (m + 1) →
-    d' ≡ cond (eqb (get_or d w.cell 0) w.value) d (set d w.cell w.value) →
-    noted' ≡ cond (eqb (get_or d w.cell 0) w.value) noted (set noted m w) →
-    Going end all room d' noted' m' ws
-wrote {end} {all} {room} {d} {noted} {m} {w} {ws} g lc lm em ed ew = rw (em, ed, ew) (step end all room d noted m w ws lc lm (eqb (get_or d w.cell 0) w.value) refl g)
+-- the same, of what `write_cell` leaves: a write that is done and noted, and one that its cell holds already
+module _ {end : Store} {all room : List Write} {d : List ℕ} {noted : List Write} {m : ℕ} {w : Write} {to_come ws : List Write} {d' : List ℕ} (g : Going end all room d noted m to_come) (e : to_come ≡ w ∷ ws) (lc : w.cell < length d) where
+  pub wrote : m < length noted → WriteCell d w true d' → Going end all room d' (set noted m w) (m + 1) ws
+  wrote lm h =
+      let n : eqb (get_or d w.cell 0) w.value ≡ false = not-true _ (sym h.0) in
+      subst (λ u. Going end all room u (set noted m w) (m + 1) ws) (sym (h.1 ∙ cond-false _ _ _ n)) (step_done end all room d noted m w ws lc lm n (subst (λ us. Going end all room d noted m us) e g))
 
--- the next write of a commit, as `write_cell` does it
-pub going_more : {end : Store} {all room : List Write} {d : List ℕ} {noted : List Write} {m : ℕ} {d' : List ℕ} {noted' : List Write} {m' : ℕ} (kept : ℕ) (t : Target) (v : Store) (i : ℕ) (w : Write) →
-    Going end all room d noted m (drop i (planned kept t v)) → w ≡ slot_write kept t v i → i < kept + 2 → t.cell + (kept + 2) ≤ length d → m < length noted →
-    m' ≡ cond (eqb (get_or d w.cell 0) w.value) m (m + 1) →
-    d' ≡ cond (eqb (get_or d w.cell 0) w.value) d (set d w.cell w.value) →
-    noted' ≡ cond (eqb (get_or d w.cell 0) w.value) noted (set noted m w) →
-    Going end all room d' noted' m' (drop (i + 1) (planned kept t v))
-going_more {end} {all} {room} {d} {noted} {m} kept t v i w g e l fits =
-    let c : w.cell < length d = omega (arith, ap (λ x. x.cell) e) in
-    wrote (subst (λ ws. Going end all room d noted m ws) (to_come_more kept t v i l ∙ ap (λ x. x ∷ drop (i + 1) (planned kept t v)) (sym e)) g) c
+  pub passed_by : WriteCell d w false d' → Going end all room d' noted m ws
+  passed_by h =
+      let n : eqb (get_or d w.cell 0) w.value ≡ true = not-false _ (sym h.0) in
+      subst (λ u. Going end all room u noted m ws) (sym (h.1 ∙ cond-true _ _ _ n)) (step_held end all room d noted m w ws n (subst (λ us. Going end all room d noted m us) e g))
 
 pub begun : (d : List ℕ) (room : List Write) (ws : List Write) → Going (apply_writes (cells d) ws) (effective_writes (cells d) ws) room d room 0 ws
 begun d room ws = record { device = refl; writes = refl; beyond = refl }
-
-pub counted : (b : Bool) (m r k : ℕ) → r ≡ cond b m (m + 1) → m ≤ k → r ≤ k + 1
-counted true m r k e l = omega arith
-counted false m r k e l = omega arith
 
 -- a cut: the write in which power goes, and one before it
 pub gone : (d : List ℕ) (w : Write) (ws : List Write) (k junk : ℕ) (d' : List ℕ) → w.cell < length d →
@@ -141,17 +144,3 @@ pub went : (d : List ℕ) (w : Write) (ws : List Write) (k junk m : ℕ) (d' : L
 went d w ws k junk m d' lc h =
     ap (λ x. cut_writes (cells x) ws m junk) h.1 ∙ went_by d w ws m junk lc (eqb (get_or d w.cell 0) w.value) refl
     ∙ ap (λ x. cut_writes (cells d) (w ∷ ws) x junk) (sym h.0)
-
--- the same of a commit: the next write is the one in which power goes, or one before it
-module _ (kept : ℕ) (t : Target) (v : Store) (i : ℕ) (w : Write) (d : List ℕ) (k junk : ℕ) (d' : List ℕ) (e : w ≡ slot_write kept t v i) (l : i < kept + 2) (fits : t.cell + (kept + 2) ≤ length d) where
-  next_is : drop i (planned kept t v) ≡ w ∷ drop (i + 1) (planned kept t v)
-  next_is = to_come_more kept t v i l ∙ ap (λ x. x ∷ drop (i + 1) (planned kept t v)) (sym e)
-
-  in_range : w.cell < length d
-  in_range = omega (arith, ap (λ x. x.cell) e)
-
-  pub cut_here : CutCell d w k junk None d' → cells d' ≡ cut_writes (cells d) (drop i (planned kept t v)) k junk
-  cut_here h = gone d w (drop (i + 1) (planned kept t v)) k junk d' in_range h ∙ ap (λ ws. cut_writes (cells d) ws k junk) (sym next_is)
-
-  pub cut_later : (m : ℕ) → CutCell d w k junk (Some m) d' → cut_writes (cells d') (drop (i + 1) (planned kept t v)) m junk ≡ cut_writes (cells d) (drop i (planned kept t v)) k junk
-  cut_later m h = went d w (drop (i + 1) (planned kept t v)) k junk m d' in_range h ∙ ap (λ ws. cut_writes (cells d) ws k junk) (sym next_is)

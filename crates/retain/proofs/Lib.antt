@@ -4,5 +4,6 @@ pub mod Holds
 pub mod Histories
 pub mod Cells
 pub mod Shape
+pub mod Parts
 pub mod Outcome
 mod Examples

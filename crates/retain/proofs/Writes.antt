@@ -1,5 +1,5 @@
 -- What lists of writes do: which cells they leave, and one list after another.
-use Rattle.std.proofs.Common.{◌≡◌, ℕ, zero, suc, ◌+◌, ◌<◌, ◌≤◌, true, false, cond, eqb, ◌⊎◌, List, [], ◌∷◌, ◌++◌, length, sym, refl, ap, ◌∙◌, inl, inr, suc-add, zero-add, arith}
+use Rattle.std.proofs.Common.{◌≡◌, ℕ, zero, suc, ◌+◌, ◌<◌, ◌≤◌, true, false, cond, eqb, ◌⊎◌, List, [], ◌∷◌, ◌++◌, length, sym, refl, ap, ◌∙◌, subst, inl, inr, suc-add, zero-add, arith}
 use Rattle.std.proofs.lemmas.Bool.{cond_both, cond-true, cond-false, eqb-true, eq-eqb, cases_eq}
 use Rattle.base.proofs.StoreLaws.{update_same, update_other}
 use Rattle.retain.specs.declared.Write.{Write}
@@ -22,6 +22,14 @@ pub values_within : (lo hi from : ℕ) (v : Store) (i n : ℕ) → lo ≤ from +
 unfolding value_writes
 values_within lo hi from v i zero l h = tt
 values_within lo hi from v i (suc n) l h = (l, omega arith, values_within lo hi from v (suc i) n (omega arith) (omega arith))
+
+pub within_append : (lo hi : ℕ) (ws us : List Write) → Within lo hi ws → Within lo hi us → Within lo hi (ws ++ us)
+within_append lo hi [] us h k = k
+within_append lo hi (w ∷ ws) us h k = (h.0, h.1, within_append lo hi ws us h.2 k)
+
+-- the next write, and those after it
+pub within_next : (lo hi : ℕ) {to_come : List Write} {w : Write} {ws : List Write} → to_come ≡ w ∷ ws → Within lo hi to_come → (w.cell < hi) × Within lo hi ws
+within_next lo hi e h = let x = subst (Within lo hi) e h in (x.1, x.2)
 
 -- cells that no write goes to stay
 pub apply_frame : (lo hi c : ℕ) (ws : List Write) (d : Store) → Within lo hi ws → Outside lo hi c → apply_writes d ws c ≡ d c

@@ -72,6 +72,11 @@ pub record Interrupted (kept : ℕ) (device values : List ℕ) (k junk : ℕ) (d
       (cut_leaves (write_count (cells device) (commit_writes kept (cells device) (cells values))) k (came_out kept (cells device) junk) (recovered kept (cells device)) (cells values))
   pub history : (first : Store) (h : List Op) → cells device ≡ after kept first h → cells device₁ ≡ after kept first (cut (cells values) k junk ∷ h)
 
+-- what one cell's write says: whether the cell was written, which holds the value then
+abbrev pub WriteCell : (device : List ℕ) → Write → (written : Bool) → (device' : List ℕ) → Type 0
+WriteCell d w written d' =
+    (written ≡ not (slice_index d w.cell == w.value)) × (d' ≡ cond (slice_index d w.cell == w.value) d (slice_set d w.cell w.value))
+
 -- what one cell's write says, with k to be done before power goes: none are left, or so many
 abbrev pub CutCell : (device : List ℕ) → Write → (k junk : ℕ) → Option ℕ → (device' : List ℕ) → Type 0
 CutCell d w k junk None d' = ((slice_index d w.cell == w.value) ≡ false) × (k ≡ 0) × (d' ≡ slice_set d w.cell junk)

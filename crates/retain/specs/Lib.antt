@@ -3,3 +3,4 @@ pub mod Story
 pub mod History
 pub mod Night
 pub mod Entry
+pub mod Commit

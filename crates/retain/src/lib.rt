@@ -5,20 +5,17 @@
 #![tactic(auto)]
 
 ghost use Rattle.std.specs.Prelude.{◌≡◌, length};
-ghost use Rattle.base.specs.Refusals.{Answered, Checked};
+ghost use Rattle.base.specs.Refusals.{Answered};
 ghost use Rattle.retain.specs.History.{Retained, Ruled};
 ghost use Rattle.retain.specs.Night.{Night};
 ghost use Rattle.retain.specs.Entry.{shape_refusal, commit_refusal, cut_refusal, Formatted, Recovered, Committed, Interrupted};
 
 use base::Refusal;
-use slots::{current_slot, next_target};
-use writing::{factory_cell, slot_write, write_cell, write_cell_cut};
+use slots::Device;
+use writing::{write_cell, write_cell_cut};
 
 mod slots;
 mod writing;
-
-/// How many values can be kept at most.
-const MAX_KEPT: usize = 64;
 
 /// One cell of the device, and what it is to hold.
 #[derive(Clone, Copy, Debug, PartialEq, Eq)]
@@ -27,29 +24,15 @@ pub struct Write {
     pub value: u64,
 }
 
-/// Refuses a device that isn't one for so many values, or a list of `count` values that is too short for them.
-fn check_shape(kept: usize, device: &[u64], count: usize) -> Result<(), Refusal>
-    ensures { Checked result (shape_refusal kept device.now count) }
-{
-    if kept > MAX_KEPT {
-        Err(Refusal::Length(0))
-    } else if device.len() != 2 * (kept + 2) {
-        Err(Refusal::Length(1))
-    } else if count < kept {
-        Err(Refusal::Length(2))
-    } else {
-        Ok(())
-    }
-}
-
 /// Makes the device as it leaves the factory, with the first values.
 pub fn format(kept: usize, device: &mut [u64], first: &[u64]) -> Result<(), Refusal>
     ensures { Answered result (shape_refusal kept device.old (length first.now)) (λ _. Formatted kept first.now device.new) (device.new ≡ device.old) }
 {
-    check_shape(kept, device, first.len())?;
-    for cell in 0..device.len() {
-        device[cell] = factory_cell(kept, first, cell);
-    }
+    Device::new(kept, device, first.len())?;
+    device.fill(0);
+    device[0] = 1;
+    device[1..kept + 1].copy_from_slice(&first[..kept]);
+    device[kept + 1] = 1;
     Ok(())
 }
 
@@ -57,9 +40,8 @@ pub fn format(kept: usize, device: &mut [u64], first: &[u64]) -> Result<(), Refu
 pub fn recover(kept: usize, device: &[u64], out: &mut [u64]) -> Result<(), Refusal>
     ensures { Answered result (shape_refusal kept device.now (length out.old)) (λ _. Recovered kept device.now out.old out.new) (out.new ≡ out.old) }
 {
-    check_shape(kept, device, out.len())?;
-    let start = current_slot(kept, device).base(kept) + 1;
-    out[..kept].copy_from_slice(&device[start..start + kept]);
+    let held = Device::new(kept, device, out.len())?;
+    out[..kept].copy_from_slice(held.values());
     Ok(())
 }
 
@@ -73,14 +55,16 @@ pub fn commit(
 ) -> Result<usize, Refusal>
     ensures { Answered result (commit_refusal kept device.old (length values.now) (length writes.old)) (λ n. Committed kept device.old values.now writes.old n device.new writes.new) ((device.new ≡ device.old) × (writes.new ≡ writes.old)) }
 {
-    check_shape(kept, device, values.len())?;
+    let held = Device::new(kept, device, values.len())?;
     if writes.len() < kept + 2 {
         return Err(Refusal::Length(3));
     }
-    let t = next_target(kept, device)?;
     let mut count = 0;
-    for i in 0..kept + 2 {
-        count = write_cell(device, slot_write(kept, t, values, i), writes, count);
+    for write in held.next_commit(values)? {
+        if write_cell(device, write) {
+            writes[count] = write;
+            count += 1;
+        }
     }
     Ok(count)
 }
@@ -95,11 +79,10 @@ pub fn commit_cut(
 ) -> Result<(), Refusal>
     ensures { Answered result (cut_refusal kept device.old (length values.now)) (λ _. Interrupted kept device.old values.now k junk device.new) (device.new ≡ device.old) }
 {
-    check_shape(kept, device, values.len())?;
-    let t = next_target(kept, device)?;
+    let held = Device::new(kept, device, values.len())?;
     let mut left = k;
-    for i in 0..kept + 2 {
-        match write_cell_cut(device, slot_write(kept, t, values, i), left, junk) {
+    for write in held.next_commit(values)? {
+        match write_cell_cut(device, write, left, junk) {
             Some(rest) => left = rest,
             None => return Ok(()),
         }
@@ -108,16 +91,12 @@ pub fn commit_cut(
 }
 
 /// After any row of saves and cuts, recovery finds what the story says.
-pub fn retention() -> u8
+pub fn retention()
     ensures retained { Retained }
     ensures ruled { Ruled }
-{
-    0
-}
+{}
 
 /// A program that writes every cell can come to show values that nobody kept; this one doesn't.
-pub fn night_of_cuts() -> u8
+pub fn night_of_cuts()
     ensures { Night }
-{
-    0
-}
+{}

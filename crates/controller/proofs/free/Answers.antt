@@ -5,5 +5,6 @@ use Rattle.controller.proofs.free.Goals as goal
 
 pub returns : goal.returns
 returns c =
-    let fits = c.in_ok-check_point.ensures.1 in
-    (c.in_ok-check_point.ensures.0, (refl, record { written = refl; follows = λ p. follows p _ _ _ (free_state p c.args.memory.now c.args.point fits.low (omega (arith, fits.memory_long)) fits.on) }))
+    let fits = c.in_ok-i.ensures.1.1 in
+    rw c.in_ok-i.ensures.1.0
+    (c.in_ok-i.ensures.0, (refl, record { written = refl; follows = λ p. follows p _ _ _ (free_state p c.args.memory.now c.args.point fits.low (omega (arith, fits.memory_long)) fits.on) }))

@@ -1,11 +1,16 @@
-use Rattle.std.proofs.Common.{◌≤◌, drop}
+use Rattle.std.proofs.Common.{◌+◌, ◌≤◌, length}
 use Rattle.base.specs.Stores.{cells}
-use Rattle.retain.specs.Device.{apply_writes, effective_writes}
-use Rattle.retain.proofs.Cells.{Going, planned}
+use Rattle.retain.specs.Device.{commit_writes, apply_writes, effective_writes}
+use Rattle.retain.specs.Commit.{to_come}
+use Rattle.retain.proofs.Writes.{Within}
+use Rattle.retain.proofs.Cells.{Going}
 use Rattle.retain.proofs.commit.Given as goal
 
-abbrev pub invariant-loop-i : goal.invariant-loop-i
-invariant-loop-i l =
-    (l.count ≤ l.i)
-    × Going (apply_writes (cells l.initial.device) (planned l.kept l.t (cells l.values))) (effective_writes (cells l.initial.device) (planned l.kept l.t (cells l.values)))
-    l.initial.writes l.device l.writes l.count (drop l.i (planned l.kept l.t (cells l.values)))
+abbrev pub invariant-loop-write : goal.invariant-loop-write
+invariant-loop-write l = record {
+  inside : Within 0 (length l.device) (to_come l.write-iterator);
+  room : l.count + length (to_come l.write-iterator) ≤ l.kept + 2;
+  going : Going (apply_writes (cells l.initial.device) (commit_writes l.kept (cells l.initial.device) (cells l.values)))
+      (effective_writes (cells l.initial.device) (commit_writes l.kept (cells l.initial.device) (cells l.values)))
+      l.initial.writes l.device l.writes l.count (to_come l.write-iterator);
+}

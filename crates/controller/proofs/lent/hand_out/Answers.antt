@@ -1,5 +1,5 @@
-use Rattle.std.proofs.Common.{◌≡◌, take, subst, arith}
-use Rattle.std.proofs.lemmas.List.{take_more}
+use Rattle.std.proofs.Common.{◌≡◌, length, take, subst, ◌∙◌, arith}
+use Rattle.std.proofs.lemmas.List.{take_more, take_all}
 use Rattle.controller.specs.Memory.{writes_in}
 use Rattle.controller.proofs.Pairs.{handed_none, handed_more}
 use Rattle.controller.proofs.lent.hand_out.Goals as goal
@@ -12,5 +12,5 @@ loop-i-preserved c = handed_more _ _ _ _ _ _ (omega arith) (take_more c.args.lis
 
 pub returns : goal.returns
 returns c =
-    let e : c.loop-i.i ≡ c.args.n = omega arith in
-    record { handed = subst (λ n. writes_in c.loop-i.writes 0 n ≡ take n c.args.list.now) e c.loop-i.invariant.pairs; beyond = λ i h. c.loop-i.invariant.beyond i (omega arith) }
+    let e : c.loop-i.i ≡ length c.args.list.now = omega arith in
+    record { handed = subst (λ n. writes_in c.loop-i.writes 0 n ≡ take n c.args.list.now) e c.loop-i.invariant.pairs ∙ take_all _ _ (omega arith); beyond = λ i h. c.loop-i.invariant.beyond i (omega arith) }

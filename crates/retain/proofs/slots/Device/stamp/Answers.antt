@@ -1,6 +1,6 @@
 use Rattle.std.proofs.Common.{rules}
 use Rattle.retain.specs.Device.{stamp}
-use Rattle.retain.proofs.slots.current_stamp.Goals as goal
+use Rattle.retain.proofs.slots.Device.stamp.Goals as goal
 
 pub returns : goal.returns
 unfolding stamp
