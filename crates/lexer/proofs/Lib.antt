@@ -1,9 +1,9 @@
 pub mod Spelling
 pub mod Cutting
 pub mod Names
-pub mod Ends
+pub mod Pieces
 pub mod PairLaws
-pub mod Passes
+pub mod Marks
+pub mod Walks
 pub mod Blanks
 pub mod Places
-pub mod Beginnings

@@ -1,9 +1,8 @@
 -- What the spellings of tokens have in common, and that each is of one token. Assumes nothing.
-use Rattle.std.proofs.Common.{◌≡◌, ℕ, suc, ◌<◌, Bool, true, false, cond, ◌&&◌, eqb, List, [], ◌∷◌, ◌++◌, length, get_or, take, drop, codes, IsUtf8, IsAscii, decimal, sym, refl, ap, ◌∙◌, subst, inl, inr, arith, lit<}
+use Rattle.std.proofs.Common.{◌≡◌, ℕ, suc, ◌<◌, Bool, true, false, ◌&&◌, eqb, List, [], ◌∷◌, ◌++◌, length, get_or, take, drop, IsUtf8, IsAscii, decimal, sym, refl, ap, ◌∙◌, subst, inl, inr, arith, lit<, rules}
 use Rattle.std.specs.Str.Parse.{digits_value, AllDigits, IsNumeral}
-use Rattle.std.specs.Char.{is_ascii_alphanumeric, is_ascii_digit}
+use Rattle.std.specs.Char.{is_ascii_alphanumeric}
 use Rattle.std.specs.Int.{IsInRange}
-use Rattle.std.specs.Str.{bytes_eq}
 use Rattle.std.proofs.lemmas.Bool.{and_parts, and_from, cond-true, cond-false, cond_both, cases_Bool}
 use Rattle.std.proofs.lemmas.Str.Ascii.{IsAscii-nil, IsAscii-cons}
 use Rattle.std.proofs.lemmas.List.{get_or-take}
@@ -11,11 +10,12 @@ use Rattle.std.proofs.lemmas.Str.{IsUtf8-from_ascii}
 use Rattle.std.proofs.lemmas.Str.Parse.{digit_from_value}
 use Rattle.std.proofs.lemmas.Fmt.{decimal_is_IsNumeral}
 use Rattle.std.proofs.lemmas.Bool.Decides.{nat_tests}
-use Rattle.base.specs.declared.Op.TheVariants.{Add, Sub, Mul, Div, Less, Equal, And, Or}
-use Rattle.lexer.specs.declared.Mark.TheVariants.{Not, Open, Close, Assign, Semicolon, Comma, If, Then, Else, Repeat, Times, Delay, End}
+use Rattle.base.specs.declared.Op.{Op}
+use Rattle.lexer.specs.declared.Mark.{Mark}
 use Rattle.lexer.specs.declared.Token.{Token}
 use Rattle.lexer.specs.declared.Token.TheVariants.{Number as number, Name as name, Operator as operator, Mark as mark}
-use Rattle.lexer.specs.Token.{blank, Spells, Parted}
+use Rattle.lexer.specs.Token.{blank, operation, marking, Spells, Parted}
+use Rattle.lexer.specs.Laws.{TextIsSpelling}
 use Rattle.lexer.specs.Piece.{run, piece_length}
 
 -- letters and digits throughout
@@ -43,79 +43,28 @@ number_shape (c ∷ cs) h = word c cs (digit_alnum c (digit_from_value c h.1.0))
 name_digits : (i : ℕ) → i < 64 → IsNumeral 10 (decimal i) × (digits_value 10 (decimal i) ≡ i)
 name_digits i h = decimal_is_IsNumeral i (omega arith)
 
+operation_shape : (o : Op) → Shape (operation o)
+operation_shape o = search (rules, word, sign, becomes)
+
+marking_shape : (m : Mark) → Shape (marking m)
+marking_shape m = search (rules, word, sign, becomes)
+
 pub shape : (w : List ℕ) (t : Token) → Spells w t → Shape w
 shape w (number n) s = number_shape w s.0
 shape w (name i) s = subst Shape (sym s.0) (word 118 (decimal i) refl (digits_alnum (decimal i) (name_digits i s.1).0.1))
-shape w (operator Add) s = subst Shape (sym s) (sign 43 refl refl refl (lit< tt))
-shape w (operator Sub) s = subst Shape (sym s) (sign 45 refl refl refl (lit< tt))
-shape w (operator Mul) s = subst Shape (sym s) (sign 42 refl refl refl (lit< tt))
-shape w (operator Div) s = subst Shape (sym s) (sign 47 refl refl refl (lit< tt))
-shape w (operator Less) s = subst Shape (sym s) (sign 60 refl refl refl (lit< tt))
-shape w (operator Equal) s = subst Shape (sym s) (sign 61 refl refl refl (lit< tt))
-shape w (operator And) s = subst Shape (sym s) (word 97 (110 ∷ 100 ∷ []) refl refl)
-shape w (operator Or) s = subst Shape (sym s) (word 111 (114 ∷ []) refl refl)
-shape w (mark Not) s = subst Shape (sym s) (word 110 (111 ∷ 116 ∷ []) refl refl)
-shape w (mark Open) s = subst Shape (sym s) (sign 40 refl refl refl (lit< tt))
-shape w (mark Close) s = subst Shape (sym s) (sign 41 refl refl refl (lit< tt))
-shape w (mark Assign) s = subst Shape (sym s) (becomes)
-shape w (mark Semicolon) s = subst Shape (sym s) (sign 59 refl refl refl (lit< tt))
-shape w (mark Comma) s = subst Shape (sym s) (sign 44 refl refl refl (lit< tt))
-shape w (mark If) s = subst Shape (sym s) (word 105 (102 ∷ []) refl refl)
-shape w (mark Then) s = subst Shape (sym s) (word 116 (104 ∷ 101 ∷ 110 ∷ []) refl refl)
-shape w (mark Else) s = subst Shape (sym s) (word 101 (108 ∷ 115 ∷ 101 ∷ []) refl refl)
-shape w (mark Repeat) s = subst Shape (sym s) (word 114 (101 ∷ 112 ∷ 101 ∷ 97 ∷ 116 ∷ []) refl refl)
-shape w (mark Times) s = subst Shape (sym s) (word 116 (105 ∷ 109 ∷ 101 ∷ 115 ∷ []) refl refl)
-shape w (mark Delay) s = subst Shape (sym s) (word 100 (101 ∷ 108 ∷ 97 ∷ 121 ∷ []) refl refl)
-shape w (mark End) s = subst Shape (sym s) (word 101 (110 ∷ 100 ∷ []) refl refl)
-
--- the token that a spelling is of
-unspell : List ℕ → Token
-unspell w =
-    cond (is_ascii_digit (get_or w 0 0)) (number (digits_value 10 w)) (cond (eqb (get_or w 0 0) 118) (name (digits_value 10 (drop 1 w)))
-    (cond (bytes_eq w (codes "+")) (operator Add) (cond (bytes_eq w (codes "-")) (operator Sub) (cond (bytes_eq w (codes "*")) (operator Mul) (cond (bytes_eq w (codes "/")) (operator Div)
-    (cond (bytes_eq w (codes "<")) (operator Less) (cond (bytes_eq w (codes "=")) (operator Equal) (cond (bytes_eq w (codes "and")) (operator And) (cond (bytes_eq w (codes "or")) (operator Or)
-    (cond (bytes_eq w (codes "not")) (mark Not) (cond (bytes_eq w (codes "(")) (mark Open) (cond (bytes_eq w (codes ")")) (mark Close) (cond (bytes_eq w (codes ":=")) (mark Assign)
-    (cond (bytes_eq w (codes ";")) (mark Semicolon) (cond (bytes_eq w (codes ",")) (mark Comma) (cond (bytes_eq w (codes "if")) (mark If) (cond (bytes_eq w (codes "then")) (mark Then)
-    (cond (bytes_eq w (codes "else")) (mark Else) (cond (bytes_eq w (codes "repeat")) (mark Repeat) (cond (bytes_eq w (codes "times")) (mark Times) (cond (bytes_eq w (codes "delay")) (mark Delay)
-    (mark End))))))))))))))))))))))
-
-digit_test : (c : ℕ) → IsInRange 48 57 c → is_ascii_digit c ≡ true
-digit_test c h = grind (arith, nat_tests)
-
-number_unspelled : (w : List ℕ) → IsNumeral 10 w → unspell w ≡ number (digits_value 10 w)
-unfolding unspell
-number_unspelled [] h = absurd (omega (arith, h.0))
-number_unspelled (c ∷ cs) h = cond-true _ _ _ (digit_test c (digit_from_value c h.1.0))
-
-unspelled : (w : List ℕ) (t : Token) → Spells w t → unspell w ≡ t
-unfolding unspell
-unspelled w (number n) s = number_unspelled w s.0 ∙ ap number s.1
-unspelled w (name i) s = ap unspell s.0 ∙ ap name (name_digits i s.1).1
-unspelled w (operator Add) s = ap unspell s
-unspelled w (operator Sub) s = ap unspell s
-unspelled w (operator Mul) s = ap unspell s
-unspelled w (operator Div) s = ap unspell s
-unspelled w (operator Less) s = ap unspell s
-unspelled w (operator Equal) s = ap unspell s
-unspelled w (operator And) s = ap unspell s
-unspelled w (operator Or) s = ap unspell s
-unspelled w (mark Not) s = ap unspell s
-unspelled w (mark Open) s = ap unspell s
-unspelled w (mark Close) s = ap unspell s
-unspelled w (mark Assign) s = ap unspell s
-unspelled w (mark Semicolon) s = ap unspell s
-unspelled w (mark Comma) s = ap unspell s
-unspelled w (mark If) s = ap unspell s
-unspelled w (mark Then) s = ap unspell s
-unspelled w (mark Else) s = ap unspell s
-unspelled w (mark Repeat) s = ap unspell s
-unspelled w (mark Times) s = ap unspell s
-unspelled w (mark Delay) s = ap unspell s
-unspelled w (mark End) s = ap unspell s
+shape w (operator o) s = subst Shape (sym s) (operation_shape o)
+shape w (mark m) s = subst Shape (sym s) (marking_shape m)
 
 -- a spelling is of one token
 pub one_token : (w : List ℕ) (t u : Token) → Spells w t → Spells w u → t ≡ u
-one_token w t u s r = sym (unspelled w t s) ∙ unspelled w u r
+one_token w (operator o) u s r = grind (arith, nat_tests)
+one_token w (mark m) u s r = grind (arith, nat_tests)
+one_token w t (operator o) s r = grind (arith, nat_tests)
+one_token w t (mark m) s r = grind (arith, nat_tests)
+one_token w (number n) (number m) s r = ap number (sym s.1 ∙ r.1)
+one_token w (name i) (name j) s r = ap name (sym (name_digits i s.1).1 ∙ ap (λ l. digits_value 10 (drop 1 l)) (sym s.0 ∙ r.0) ∙ (name_digits j r.1).1)
+one_token w (number n) (name i) s r = grind (arith, nat_tests)
+one_token w (name i) (number n) s r = grind (arith, nat_tests)
 
 pub alnum_solid : (b : ℕ) → is_ascii_alphanumeric b ≡ true → (blank b ≡ false) × (b < 128)
 alnum_solid b h = (grind (arith, nat_tests), grind (arith, nat_tests))
@@ -125,6 +74,11 @@ pub solid : (w bs : List ℕ) → Shape w → (0 < length (w ++ bs)) × (blank (
 solid _ bs (word b cs a h) = (omega arith, (alnum_solid b a).0)
 solid _ bs (sign b a s n l) = (omega arith, s)
 solid _ bs becomes = (omega arith, refl)
+
+pub shape_some : (w : List ℕ) → Shape w → 0 < length w
+shape_some _ (word b cs a h) = omega arith
+shape_some _ (sign b a s n l) = omega arith
+shape_some _ becomes = omega arith
 
 run_front : (w bs : List ℕ) → all_alnum w ≡ true → is_ascii_alphanumeric (get_or bs 0 0) ≡ false → run (w ++ bs) ≡ length w
 run_front [] [] h p = refl
@@ -157,10 +111,6 @@ piece_parted (b ∷ bs) a =
     let first : is_ascii_alphanumeric b ≡ true = sym (ap is_ascii_alphanumeric (get_or-take (piece_length (b ∷ bs)) (b ∷ bs) 0 0 (piece_some b bs))) ∙ a in
     ap (λ k. is_ascii_alphanumeric (get_or (drop k (b ∷ bs)) 0 0)) (cond-true _ _ _ first) ∙ run_stops bs
 
-pub piece_positive : (rest : List ℕ) → 0 < length rest → 0 < piece_length rest
-piece_positive [] h = absurd (omega arith)
-piece_positive (b ∷ bs) h = piece_some b bs
-
 all_ascii : (bs : List ℕ) → all_alnum bs ≡ true → IsAscii bs
 all_ascii [] h = IsAscii-nil
 all_ascii (b ∷ bs) h = IsAscii-cons b bs (alnum_solid b (and_parts _ _ h).0).1 (all_ascii bs (and_parts _ _ h).1)
@@ -172,3 +122,9 @@ shape_ascii _ becomes = IsAscii-cons 58 (61 ∷ []) (lit< tt) (IsAscii-cons 61 [
 
 pub spells_utf8 : (w : List ℕ) (t : Token) → Spells w t → IsUtf8 w
 spells_utf8 w t s = IsUtf8-from_ascii w (shape_ascii w (shape w t s))
+
+pub text_is_spelling : TextIsSpelling
+text_is_spelling w (number n) s = let reads = decimal_is_IsNumeral n (omega (arith, s.2)) in (reads.0, reads.1, s.2)
+text_is_spelling w (name i) s = (refl, s.1)
+text_is_spelling w (operator o) s = grind arith
+text_is_spelling w (mark m) s = refl

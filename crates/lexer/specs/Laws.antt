@@ -3,6 +3,7 @@ use Rattle.std.specs.Prelude.{◌≡◌, ℕ, true, List, [], ◌∷◌, ◌++�
 use Rattle.std.specs.Str.{chars}
 use Rattle.lexer.specs.declared.Token.{Token}
 use Rattle.lexer.specs.Token.{blank, Spells, Cuts}
+use Rattle.lexer.specs.Text.{token_text}
 use Rattle.lexer.specs.Pairs.{kind, value, pairs, tokens_in, token_if}
 use Rattle.lexer.specs.Outcome.{Whole, Broken}
 
@@ -45,3 +46,7 @@ PairIsToken = (w : List ℕ) (t : Token) → Spells w t → token_if (kind t) (v
 -- a token's pair is the only one that is this token
 abbrev pub OnePair : Type 0
 OnePair = (k v : ℕ) (t : Token) → token_if k v ≡ Some t → (kind t ≡ k) × (value t ≡ v)
+
+-- what is written for a token that a text can have is a spelling of it
+abbrev pub TextIsSpelling : Type 0
+TextIsSpelling = (w : List ℕ) (t : Token) → Spells w t → Spells (token_text t) t

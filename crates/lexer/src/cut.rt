@@ -1,42 +1,20 @@
-//! Two passes over a text: the first counts its tokens and may refuse, the second writes them and can't.
-ghost use Rattle.std.specs.Prelude.{◌≡◌, ◌*◌, ◌≤◌, length};
-ghost use Rattle.lexer.specs.Token.{blank};
+//! What walks over a text find: how many tokens it has, where one begins, and their pairs.
+ghost use Rattle.std.specs.Prelude.{ℕ, ◌*◌, ◌≤◌, length};
 ghost use Rattle.lexer.specs.Outcome.{Counted, Whole, Written, PlaceOfToken, EndsIfFewer};
 
-use super::piece::token_at;
+use super::walk::Tokens;
 use base::Refusal;
-
-const MOST_TOKENS: u64 = 4096;
-
-fn is_blank(b: u8) -> bool
-    ensures { result ≡ blank b }
-{
-    b == b' ' || b == b'\t' || b == b'\n' || b == b'\r'
-}
 
 /// How many tokens the text has.
 pub(crate) fn count(text: &[u8]) -> Result<u64, Refusal>
     ensures { Counted text.now result }
 {
-    let mut i = 0;
-    let mut n = 0;
-    while i < text.len() {
-        if is_blank(text[i]) {
-            i += 1;
-        } else {
-            if n == MOST_TOKENS {
-                return Err(Refusal::Token(i as u64));
-            }
-            match token_at(text, i) {
-                Some((_, end)) => {
-                    n += 1;
-                    i = end;
-                }
-                None => return Err(Refusal::Token(i as u64)),
-            }
-        }
+    let mut count = 0;
+    for (place, token) in Tokens::new(text) {
+        token.ok_or(Refusal::Token(place as u64))?;
+        count += 1;
     }
-    Ok(n)
+    Ok(count)
 }
 
 /// Where token `index` begins; the text's length where there are fewer.
@@ -44,51 +22,19 @@ pub(crate) fn place(text: &[u8], index: u64) -> usize
     ensures begins { PlaceOfToken text.now index result }
     ensures fewer { EndsIfFewer text.now index result }
 {
-    let mut i = 0;
-    let mut n = 0;
-    while i < text.len() {
-        if is_blank(text[i]) {
-            i += 1;
-        } else {
-            if n == index {
-                return i;
-            }
-            if n == MOST_TOKENS {
-                return text.len();
-            }
-            match token_at(text, i) {
-                Some((_, end)) => {
-                    n += 1;
-                    i = end;
-                }
-                None => return text.len(),
-            }
-        }
-    }
-    text.len()
+    let next = Tokens::new(text).nth(index as usize);
+    next.map_or(text.len(), |(place, _)| place)
 }
 
-/// Writes the tokens of a text that has `n` of them.
-pub(crate) fn write(text: &[u8], room: &mut [u16], n: u64)
-    requires { (Whole text.now n) × (2 * n ≤ length room.old) }
-    ensures { Written text.now room.old room.new n }
+/// Writes the tokens of a text that can be cut to the front of a room that holds them.
+pub(crate) fn write(text: &[u8], room: &mut [u16])
+    requires { (n : ℕ) × Whole text.now n × (2 * n ≤ length room.old) }
+    ensures { (n : ℕ) → Whole text.now n → Written text.now room.old room.new n }
 {
-    let mut i = 0;
-    let mut at = 0;
-    while i < text.len() {
-        if is_blank(text[i]) {
-            i += 1;
-        } else {
-            match token_at(text, i) {
-                Some((token, end)) => {
-                    let (kind, value) = token.pair();
-                    room[at] = kind;
-                    room[at + 1] = value;
-                    at += 2;
-                    i = end;
-                }
-                None => unreachable(),
-            }
-        }
+    for (i, (_, token)) in Tokens::new(text).enumerate() {
+        let Some(token) = token else { unreachable!() };
+        let (kind, value) = token.pair();
+        room[2 * i] = kind;
+        room[2 * i + 1] = value;
     }
 }

@@ -3,13 +3,15 @@
 
 ghost use Rattle.std.specs.Prelude.{◌≡◌};
 ghost use Rattle.lexer.specs.Outcome.{Tokenized, PlaceOfToken, EndsIfFewer};
-ghost use Rattle.lexer.specs.Laws.{OneWay, OnePlace, RefusedRightly, PlaceInCharacters, BlanksAlike, BlanksBetween, PairsBack, PairIsToken, OnePair};
+ghost use Rattle.lexer.specs.Laws.{OneWay, OnePlace, RefusedRightly, PlaceInCharacters, BlanksAlike, BlanksBetween, PairsBack, PairIsToken, OnePair, TextIsSpelling};
 
 use base::{Op, Refusal};
 
 mod cut;
 mod pair;
 mod piece;
+mod text;
+mod walk;
 
 /// A token that carries nothing: a word or a sign with one spelling.
 #[derive(Clone, Copy, Debug, PartialEq, Eq)]
@@ -39,8 +41,11 @@ pub enum Token {
     Mark(Mark),
 }
 
-/// How many numbers the room for tokens has: a pair for each of the 4,096 tokens that a text may have.
-const ROOM: usize = 8192;
+/// How many tokens a text has at most.
+pub const MOST_TOKENS: u64 = 4096;
+
+/// How many numbers the room for tokens has: a pair for each.
+pub const TOKEN_ROOM: usize = 2 * MOST_TOKENS as usize;
 
 /// Where the room stands among the parameters of `tokenize`.
 const ROOM_PARAMETER: u64 = 1;
@@ -52,10 +57,10 @@ pub fn tokenize(text: &str, room: &mut [u16]) -> Result<u64, Refusal>
 {
     let bytes = text.as_bytes();
     let n = cut::count(bytes)?;
-    if room.len() != ROOM {
+    if room.len() != TOKEN_ROOM {
         return Err(Refusal::Length(ROOM_PARAMETER));
     }
-    cut::write(bytes, room, n);
+    cut::write(bytes, room);
     Ok(n)
 }
 
@@ -68,34 +73,31 @@ pub fn token_place(text: &str, index: u64) -> usize
 }
 
 /// A text is cut in at most one way.
-pub fn cut_in_one_way() -> u8
+pub fn cut_in_one_way()
     ensures { OneWay }
-{
-    0
-}
+{}
 
 /// A text that is refused can't be cut, and is refused at one place, which counts characters as it counts bytes.
-pub fn refused_rightly() -> u8
+pub fn refused_rightly()
     ensures cut { RefusedRightly }
     ensures place { OnePlace }
     ensures characters { PlaceInCharacters }
-{
-    0
-}
+{}
 
 /// More blanks, where there is one or between tokens, change nothing.
-pub fn blanks_change_nothing() -> u8
+pub fn blanks_change_nothing()
     ensures alike { BlanksAlike }
     ensures between { BlanksBetween }
-{
-    0
-}
+{}
 
 /// The pairs say which tokens they were made of, and no other pair says the same.
-pub fn pairs_read_back() -> u8
+pub fn pairs_read_back()
     ensures back { PairsBack }
     ensures token { PairIsToken }
     ensures one { OnePair }
-{
-    0
-}
+{}
+
+/// What is written for a token is a spelling of it.
+pub fn text_reads_back()
+    ensures { TextIsSpelling }
+{}

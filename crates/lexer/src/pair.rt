@@ -2,11 +2,14 @@
 ghost use Rattle.std.specs.Prelude.{◌≡◌};
 ghost use Rattle.lexer.specs.Pairs.{code, mark_of, kind, value, token_of};
 
+use super::text::MARKS;
 use super::{Mark, Token};
 use base::Op;
 
+// As at `Op`, `number` and `from_number`, and no `From`: the names say what the number is, which `u16::from(mark)` doesn't.
 impl Mark {
     /// Its number in a token's pair.
+    #[tactic(auto, unfolding(crate::specs::Pairs::code))]
     pub fn number(self) -> u16
         ensures { result ≡ code self }
     {
@@ -17,24 +20,11 @@ impl Mark {
     fn from_number(number: u16) -> Mark
         ensures { result ≡ mark_of number }
     {
-        match number {
-            0 => Mark::Not,
-            1 => Mark::Open,
-            2 => Mark::Close,
-            3 => Mark::Assign,
-            4 => Mark::Semicolon,
-            5 => Mark::Comma,
-            6 => Mark::If,
-            7 => Mark::Then,
-            8 => Mark::Else,
-            9 => Mark::Repeat,
-            10 => Mark::Times,
-            11 => Mark::Delay,
-            _ => Mark::End,
-        }
+        MARKS.get(usize::from(number)).copied().unwrap_or(Mark::End)
     }
 }
 
+// No `From` and no `TryFrom`: `token.pair()` says what the two numbers are, and `from_pair` takes them as they lie in a room and never fails.
 impl Token {
     /// Its kind, and which of its kind it is.
     pub fn pair(self) -> (u16, u16)
@@ -49,6 +39,7 @@ impl Token {
     }
 
     /// The token of a pair; where the pair is none, some token all the same.
+    #[tactic(auto, using(std::proofs::lemmas::Bool::Decides::nat_tests), unfolding(crate::specs::Pairs::token_of))]
     pub fn from_pair(kind: u16, value: u16) -> Token
         ensures { result ≡ token_of kind value }
     {

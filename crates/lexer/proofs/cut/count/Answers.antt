@@ -1,26 +1,29 @@
-use Rattle.std.proofs.Common.{◌≡◌, ◌+◌, ◌-◌, sym, ap, subst, inl, inr, arith}
+use Rattle.std.proofs.Common.{◌≡◌, [], ◌∷◌, ◌++◌, refl, sym, subst, arith}
+use Rattle.std.proofs.lemmas.Result.{err_from_is_err_and}
+use Rattle.std.proofs.lemmas.List.{length_push}
 use Rattle.base.specs.declared.Refusal.TheVariants.{Token as BadToken}
-use Rattle.lexer.proofs.Passes.{Sofar, begun, passed_blank, passed_token, counted, broken}
+use Rattle.lexer.specs.Outcome.{Whole}
+use Rattle.lexer.proofs.Walks.{started, taken, finished, refused}
 use Rattle.lexer.proofs.cut.count.Goals as goal
 
-pub loop-i-init : goal.loop-i-init
-loop-i-init c = begun c.args.text.now
+pub loop-place-init : goal.loop-place-init
+loop-place-init c = record { tokens = []; walked = started _ _ (cc) (cc) (cc); count = refl }
 
-pub loop-i-preserved-then-is_blank : goal.loop-i-preserved-then-is_blank
-loop-i-preserved-then-is_blank c = passed_blank _ _ _ c.loop-i-test.true (sym c.if-is_blank.ensures) c.loop-i.invariant
+pub returns-in_err-ok_or : goal.returns-in_err-ok_or
+returns-in_err-ok_or c =
+    let p = err_from_is_err_and c.from_residual.result c.from_residual.ensures.1 in
+    let step = rw c.in_err-ok_or.ensures.ok_part at c.in-Some.ensures.steps in
+    let bad : c.in_err-ok_or.field-0.0 ≡ BadToken c.in-Some.place = grind (arith, c.in_err-ok_or.ensures.value, c.in_err-ok_or.ensures.ok_part) in
+    rw (p.1, p.2) (c.in-Some.place, bad, refused _ _ c.next.new.self _ c.loop-place.invariant.walked _ step)
 
-pub returns-then-n-eq-MOST_TOKENS : goal.returns-then-n-eq-MOST_TOKENS
-returns-then-n-eq-MOST_TOKENS c = (c.loop-i.i, ap BadToken (omega arith), broken _ _ _ c.loop-i-test.true (sym c.if-is_blank.ensures) (inl c.if-n-eq-MOST_TOKENS.true) c.loop-i.invariant)
+pub overflow_add-count : goal.overflow_add-count
+overflow_add-count c = omega (arith, c.loop-place.invariant.count, c.loop-place.invariant.walked.front.few)
 
-pub loop-i-preserved : goal.loop-i-preserved
-loop-i-preserved c =
-    let told = c.in-Some.ensures in
-    let end : c.loop-i.i + (c.in-Some.end - c.loop-i.i) ≡ c.in-Some.end = omega (arith, told.0) in
-    subst (λ e. Sofar c.args.text.now e (c.loop-i.n + 1)) end
-    (passed_token _ _ _ _ c.in-Some.field-0-0 (omega (arith, c.if-n-eq-MOST_TOKENS.false, c.loop-i.invariant.few)) told.1 c.loop-i.invariant)
-
-pub returns-in-None : goal.returns-in-None
-returns-in-None c = (c.loop-i.i, ap BadToken (omega arith), broken _ _ _ c.loop-i-test.true (sym c.if-is_blank.ensures) (inr c.in-None.ensures) c.loop-i.invariant)
+pub loop-place-preserved : goal.loop-place-preserved
+loop-place-preserved c =
+    let before = c.loop-place.invariant in
+    let step = rw c.in_ok-ok_or.ensures.ok_part at c.in-Some.ensures.steps in
+    record { tokens = before.tokens ++ c.in_ok-ok_or.field-0 ∷ []; walked = taken _ _ _ _ before.walked _ _ step; count = omega (arith, before.count, length_push before.tokens c.in_ok-ok_or.field-0) }
 
 pub returns : goal.returns
-returns c = counted _ _ _ c.loop-i-test.false c.loop-i.invariant
+returns c = subst (Whole c.args.text.now) (sym c.loop-place.invariant.count) (finished _ _ c.next.new.self _ c.loop-place.invariant.walked c.in-None.ensures.steps)

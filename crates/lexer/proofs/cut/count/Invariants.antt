@@ -1,9 +1,7 @@
-use Rattle.std.proofs.Common.{◌-◌, length}
-use Rattle.lexer.proofs.Passes.{Sofar}
+use Rattle.std.proofs.Common.{◌≡◌, List, length}
+use Rattle.lexer.specs.declared.Token.{Token}
+use Rattle.lexer.proofs.Walks.{Walked}
 use Rattle.lexer.proofs.cut.count.Given as goal
 
-abbrev pub invariant-loop-i : goal.invariant-loop-i
-invariant-loop-i l = Sofar l.text l.i l.n
-
-abbrev pub decreases-loop-i : goal.decreases-loop-i
-decreases-loop-i l = length l.text - l.i
+abbrev pub invariant-loop-place : goal.invariant-loop-place
+invariant-loop-place l = record { tokens : List Token; walked : Walked l.text l.place-iterator tokens; count : l.count ≡ length tokens }

@@ -1,27 +1,54 @@
-use Rattle.std.proofs.Common.{◌≡◌, ◌+◌, ◌-◌, sym, arith, length-set}
-use Rattle.lexer.proofs.Passes.{writing_begun, written_blank, not_stuck, room_left, written_token, all_written}
+use Rattle.std.proofs.Common.{◌≡◌, [], ◌∷◌, ◌++◌, ◌+◌, ◌*◌, ◌≤◌, length, refl, arith, length-set}
+use Rattle.std.proofs.lemmas.List.{length_push}
+use Rattle.std.specs.Iterator.Adapters.{enumerate_source}
+use Rattle.lexer.specs.Pairs.{pairs}
+use Rattle.lexer.proofs.Cutting.{refused_rightly_lem}
+use Rattle.lexer.proofs.Walks.{started, taken, finished, all_cut, refused, found, filled, same_count}
 use Rattle.lexer.proofs.cut.write.Goals as goal
 
+index : (c : goal.After-pair-kind) → c.in-Some.i ≡ length c.loop-i.invariant.tokens
+index c = omega (arith, c.in-Some.ensures.steps.1, c.loop-i.invariant.count)
+
+room_left : (c : goal.After-pair-kind) → 2 * c.in-Some.i + 2 ≤ length c.args.room.now
+room_left c =
+    let more = (found _ _ (enumerate_source c.next.new.self) _ c.loop-i.invariant.walked _ _ c.in-Some.ensures.steps.0).1 c.requires.0 c.requires.1 in
+    omega (arith, index c, more, c.requires.2)
+
 pub loop-i-init : goal.loop-i-init
-loop-i-init c = writing_begun _ _ _ c.requires.0 c.requires.1
+unfolding pairs
+loop-i-init c = record { tokens = []; walked = started _ _ (cc) (cc) (cc); count = (cc); holds = refl }
 
-pub loop-i-preserved-then-is_blank : goal.loop-i-preserved-then-is_blank
-loop-i-preserved-then-is_blank c = written_blank _ _ _ _ _ _ c.loop-i.invariant c.loop-i-test.true (sym c.if-is_blank.ensures)
+pub unreachable-requires : goal.unreachable-requires
+unreachable-requires c =
+    let step = rw c.in_default.is at c.in-Some.ensures.steps.0 in
+    refused_rightly_lem _ _ _ (refused _ _ (enumerate_source c.next.new.self) _ c.loop-i.invariant.walked _ step) c.requires.1
 
-pub bounds-room-at : goal.bounds-room-at
-bounds-room-at c = omega (arith, room_left _ _ _ _ _ _ c.loop-i.invariant _ _ c.in-Some.ensures.1, c.loop-i.auto.room)
+pub bounds-room-i : goal.bounds-room-i
+bounds-room-i c = omega (arith, room_left c, c.loop-i.auto.room)
 
-pub bounds-room-at-in-Some : goal.bounds-room-at-in-Some
-bounds-room-at-in-Some c = simp length-set (omega (arith, room_left _ _ _ _ _ _ c.loop-i.invariant _ _ c.in-Some.ensures.1, c.loop-i.auto.room))
+pub bounds-room-i-in-loop-i : goal.bounds-room-i-in-loop-i
+bounds-room-i-in-loop-i c = simp length-set (omega (arith, room_left c, c.loop-i.auto.room))
 
 pub loop-i-preserved : goal.loop-i-preserved
 loop-i-preserved c =
-    let told = c.in-Some.ensures in
-    let end : c.loop-i.i + (c.in-Some.end - c.loop-i.i) ≡ c.in-Some.end = omega (arith, told.0) in
-    written_token _ _ _ _ _ _ c.loop-i.invariant _ _ c.in-Some.token _ end c.pair-kind.ensures told.1
-
-pub unreachable-requires : goal.unreachable-requires
-unreachable-requires c = not_stuck _ _ _ _ _ _ c.loop-i.invariant c.loop-i-test.true (sym c.if-is_blank.ensures) c.in-None.ensures
+    let before = c.loop-i.invariant in
+    let step = rw c.in-Some-token.is at c.in-Some.ensures.steps.0 in
+    let longer = length_push before.tokens c.in-Some-token.token in
+    record {
+      tokens = before.tokens ++ c.in-Some-token.token ∷ [];
+      walked = taken _ _ _ _ before.walked _ _ step;
+      count = omega (arith, c.in-Some.ensures.steps.2, before.count, longer);
+      holds = filled _ _ before.tokens _ _ _ (index c) before.holds (room_left c) c.pair-kind.ensures;
+    }
 
 pub returns : goal.returns
-returns c = all_written _ _ _ _ _ _ c.loop-i.invariant c.loop-i-test.false
+returns c = λ n whole.
+    let left = c.loop-i.invariant in
+    let same = same_count _ _ n (finished _ _ (enumerate_source c.next.new.self) _ left.walked c.in-None.ensures.steps.0) whole in
+    record {
+      tokens = left.tokens;
+      cuts = all_cut _ _ (enumerate_source c.next.new.self) _ left.walked c.in-None.ensures.steps.0;
+      count = same;
+      fits = omega (arith, c.requires.2, same_count _ _ n c.requires.1 whole);
+      holds = rw same at left.holds;
+    }
