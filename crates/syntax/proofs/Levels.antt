@@ -2,21 +2,13 @@
 use Rattle.std.proofs.Common.{ℕ, zero, suc, ◌≤◌, List, subst, inl, inr, arith}
 use Rattle.std.proofs.str.Laws.{order}
 use Rattle.base.specs.declared.Op.{Op}
-use Rattle.base.specs.declared.Op.TheVariants.{Add, Sub, Mul, Div, Less, Equal, And, Or}
 use Rattle.lexer.specs.declared.Token.{Token}
 use Rattle.syntax.specs.Ast.{Expr}
 use Rattle.syntax.specs.Grammar.{strength, ReadsExpr, looser}
 
 pub strength_4 : (o : Op) → strength o ≤ 4
 unfolding strength
-strength_4 Add = omega arith
-strength_4 Sub = omega arith
-strength_4 Mul = omega arith
-strength_4 Div = omega arith
-strength_4 Less = omega arith
-strength_4 Equal = omega arith
-strength_4 And = omega arith
-strength_4 Or = omega arith
+strength_4 o = grind arith
 
 -- an expression of a level is one of each level above it
 pub raised : {l : ℕ} {ts : List Token} {e : Expr} (m : ℕ) → ReadsExpr l ts e → l ≤ m → ReadsExpr m ts e

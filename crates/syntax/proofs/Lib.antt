@@ -12,6 +12,7 @@ pub mod Closes
 pub mod Expects
 pub mod ExpressionTokens
 pub mod StatementTokens
-pub mod Wholes
 pub mod Naming
+pub mod Wholes
 pub mod Expectations
+pub mod Shapes

@@ -7,7 +7,7 @@ use Rattle.syntax.specs.Parser.{State, statement, name_read, repeat_read, rounds
 use Rattle.syntax.specs.Reading.{Laid}
 use Rattle.syntax.specs.declared.expected.Expected.{Expected}
 use Rattle.syntax.specs.declared.expected.Expected.TheVariants.{Statement, Expression, Operator, Assign, Number, Times, Name, Comma, Semicolon}
-use Rattle.syntax.specs.declared.frame.Frame.{Frame}
+use Rattle.syntax.specs.declared.state.Parser.{Parser}
 use Rattle.syntax.specs.declared.state.State as laid
 
 -- what a state of the parser could go on with
@@ -32,7 +32,7 @@ last_state q (t ∷ ts) = elim (step q t) [ some q' ↦ last_state q' ts | none 
 
 -- a state that is laid out could go on with this
 abbrev pub ExpectsIn : laid.State → Expected → Type 0
-ExpectsIn state r = (m : List ℕ) (s : List Frame) (q : State) → Laid m s state q → r ≡ expects q
+ExpectsIn state r = (p : Parser) (q : State) → Laid p state q → r ≡ expects q
 
 -- tokens could go on with this, where no program goes on with the next one, or where they end; of 4,096 at most
 abbrev pub ExpectsAfter : List ℕ → Expected → Type 0

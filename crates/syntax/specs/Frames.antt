@@ -1,11 +1,14 @@
 -- The parser's stack as frames, over trees that are laid out in nodes. Assumes nothing: these are definitions.
-use Rattle.std.specs.Prelude.{◌≡◌, ℕ, suc, ◌+◌, ◌*◌, ◌<◌, ◌≤◌, ◌⊎◌, List, [], ◌∷◌, slice_index, slice_index_or}
+use Rattle.std.specs.Prelude.{◌≡◌, ℕ, suc, ◌+◌, ◌*◌, ◌<◌, ◌≤◌, ◌⊎◌, List, [], ◌∷◌, Some, None, Option, slice_index, slice_index_or, slice_set}
+use Rattle.base.specs.declared.Op.{Op}
 use Rattle.base.specs.Ops.{op_code}
 use Rattle.syntax.specs.Ast.{Expr, Stmt, skip}
+use Rattle.syntax.specs.Grammar.{strength}
 use Rattle.syntax.specs.Parser.{Outer, top, then_in, else_in, repeat_in, Block, Goal, assign_to, condition_in, delay_in, Pending, whole, right_of, bracket, climb, inverts, closed}
 use Rattle.syntax.specs.Tree.{cell, Holds, HoldsStmt}
 use Rattle.syntax.specs.declared.frame.Frame.{Frame}
 use Rattle.syntax.specs.declared.frame.Frame.TheVariants.{Bracket, RightOf, Not, Done, ThenIn, ElseIn, RepeatIn, AssignTo, ConditionIn, DelayIn}
+use Rattle.syntax.specs.declared.state.Parser.{Parser}
 use Rattle.syntax.specs.declared.node.Node.{Node}
 use Rattle.syntax.specs.declared.node.Node.TheVariants.{Literal, Variable, Not as NotNode, Binary, Skip, Assign, Seq, Branch, Repeat, Delay, Setting, Broken}
 
@@ -91,26 +94,60 @@ Same n m m' = (j : ℕ) → j < 4 * n → slice_index m' j ≡ slice_index m j
 abbrev pub SameFrames : ℕ → List Frame → List Frame → Type 0
 SameFrames d s s' = (j : ℕ) → j < d → frame s' j ≡ frame s j
 
--- the frames are what waits, and node x is the operand that was read last
-pub record Operands (p : Pending) (e : Expr) (m : List ℕ) (s : List Frame) (n d x : ℕ) : Type 0 where
-  pub frames : Stacked m n s d p
-  pub tree : ExprAt m n x e
+-- the frames are what waits, and the node read last is the operand
+pub record Operands (w : Pending) (e : Expr) (p : Parser) : Type 0 where
+  pub frames : Stacked p.nodes p.used p.frames p.depth w
+  pub tree : ExprAt p.nodes p.used p.last e
 
 -- the nodes and frames are those of the parser's climb
-abbrev pub Climbed : (l : ℕ) (m : List ℕ) (s : List Frame) (n d x : ℕ) (m' : List ℕ) (n' d' x' : ℕ) → Type 0
-Climbed l m s n d x m' n' d' x' = (p : Pending) (e : Expr) → Operands p e m s n d x → Operands (climb l p e).0 (climb l p e).1 m' s n' d' x'
+abbrev pub Climbs : ℕ → (p p' : Parser) → Type 0
+Climbs l p p' = (w : Pending) (e : Expr) → Operands w e p → Operands (climb l w e).0 (climb l w e).1 p'
 
 -- an operand comes next, after k nots
-pub record Awaits (k : ℕ) (p : Pending) (m : List ℕ) (s : List Frame) (n d : ℕ) : Type 0 where
+pub record Awaits (k : ℕ) (w : Pending) (p : Parser) : Type 0 where
   pub base : ℕ
-  pub count : d ≡ base + k
-  pub nots : Nots s base d
-  pub frames : Stacked m n s base p
+  pub count : p.depth ≡ base + k
+  pub nots : Nots p.frames base p.depth
+  pub frames : Stacked p.nodes p.used p.frames base w
 
 -- the nots before an operand are done
-abbrev pub Inverted : (m : List ℕ) (s : List Frame) (n d x : ℕ) (m' : List ℕ) (n' d' x' : ℕ) → Type 0
-Inverted m s n d x m' n' d' x' = (k : ℕ) (p : Pending) (e : Expr) → Awaits k p m s n d → ExprAt m n x e → Operands p (inverts k e) m' s n' d' x'
+abbrev pub Inverts : (p p' : Parser) → Type 0
+Inverts p p' = (k : ℕ) (w : Pending) (e : Expr) → Awaits k w p → ExprAt p.nodes p.used p.last e → Operands w (inverts k e) p'
+
+-- a block, laid out
+abbrev pub Here : Parser → Block → Type 0
+Here p b = Blocked b p.nodes p.frames p.used p.depth
 
 -- the innermost block is closed
-abbrev pub Closes : (m : List ℕ) (s : List Frame) (n d : ℕ) (m' : List ℕ) (n' d' x' : ℕ) → Type 0
-Closes m s n d m' n' d' x' = (b : Block) → Blocked b m s n d → Outers m' n' s d' b.1 × StmtAt m' n' x' (closed b.0 skip)
+abbrev pub Closes : (p p' : Parser) → Type 0
+Closes p p' = (b : Block) → Here p b → Outers p'.nodes p'.used p'.frames p'.depth b.1 × StmtAt p'.nodes p'.used p'.last (closed b.0 skip)
+
+-- a frame more, or a node more, with its numbers among these
+abbrev pub pushed : Frame → Parser → Parser
+pushed f p = record p { frames = slice_set p.frames p.depth f; depth = p.depth + 1 }
+
+abbrev pub added : List ℕ → Parser → Parser
+added m p = record p { nodes = m; used = p.used + 1; last = p.used }
+
+-- a node is added
+pub record Adds (x : Node) (p p' : Parser) : Type 0 where
+  pub is : p' ≡ added p'.nodes p
+  pub wrote : Wrote p.nodes p'.nodes p.used x
+
+-- the frame on top and the node read last become a node, as long as R joins them
+pub data Joined (R : Frame → ℕ → Option Node → Type 0) : Parser → Parser → Type 0 where
+  ends : (p : Parser) → ((c : ℕ) → p.depth ≡ c + 1 → R (frame p.frames c) p.last None) → Joined R p p
+  joins : (p p' : Parser) (c : ℕ) (m : List ℕ) (x : Node) → p.depth ≡ c + 1 → R (frame p.frames c) p.last (Some x) → Wrote p.nodes m p.used x → Joined R (added m (record p { depth = c })) p' → Joined R p p'
+
+-- what joins: an operator that binds tightly enough with its right operand, a not with its operand, a statement with those after it
+abbrev pub JoinsOperator : ℕ → Frame → ℕ → Option Node → Type 0
+JoinsOperator l f x (Some y) = (o : Op) × (a : ℕ) × (f ≡ RightOf o a) × (strength o ≤ l) × (y ≡ Binary o a x)
+JoinsOperator l f x None = (o : Op) (a : ℕ) → f ≡ RightOf o a → l < strength o
+
+abbrev pub JoinsNot : Frame → ℕ → Option Node → Type 0
+JoinsNot f x (Some y) = (f ≡ Not) × (y ≡ NotNode x)
+JoinsNot f x None = f ≡ Not → ⊥
+
+abbrev pub JoinsStatement : Frame → ℕ → Option Node → Type 0
+JoinsStatement f x (Some y) = (s : ℕ) × (f ≡ Done s) × (y ≡ Seq s x)
+JoinsStatement f x None = (s : ℕ) → f ≡ Done s → ⊥

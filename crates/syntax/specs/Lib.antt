@@ -13,3 +13,4 @@ pub mod Node
 pub mod Frames
 pub mod Reading
 pub mod Whole
+pub mod Texts

@@ -9,6 +9,10 @@ pub record Fine (xs : List ℕ) (j : ℕ) : Type 0 where
   pub word : slice_index_or xs (2 * j + 1) 0 < 65536
   pub is : shaped (slice_index xs (2 * j)) (slice_index xs (2 * j + 1)) ≡ true
 
+-- the same of a pair that is cut out
+abbrev pub IsFine : ℕ → List ℕ → Type 0
+IsFine i pair = (i < 4096) × (length pair ≡ 2) × (shaped (slice_index pair 0) (slice_index pair 1) ≡ true)
+
 -- every pair is
 abbrev pub WellShaped : List ℕ → Type 0
 WellShaped xs = (j : ℕ) → 2 * j < length xs → Fine xs j

@@ -1,89 +1,85 @@
 //! Nodes that are made when an operand, a bracket or a block ends.
 ghost use Rattle.std.specs.Prelude.{◌≡◌, ◌+◌, ◌≤◌};
-ghost use Rattle.syntax.specs.Frames.{Climbed, Inverted, Closes};
+ghost use Rattle.syntax.specs.Frames.{Climbs, Inverts, Closes, Joined, JoinsOperator, JoinsNot, JoinsStatement};
+ghost use Rattle.syntax.specs.Reading.{HasRoom};
 
-use super::build::put_node;
-use super::frame::{DEPTH, Frame};
+use super::frame::Frame;
 use super::node::Node;
 use super::operator::strength_of;
-use super::state::Top;
-use super::tree::ROOM;
+use super::state::Parser;
 
-/// Joins the operands that wait for operators which bind at least as tightly as one of the strength.
-pub(crate) fn climb(
-    strength: u16,
-    nodes: &mut [u16; ROOM],
-    frames: &[Frame; DEPTH],
-    top: Top,
-) -> Top
-    requires { top.used + top.depth ≤ 4097 }
-    ensures size { result.used + result.depth ≡ top.used + top.depth }
-    ensures climbs { Climbed strength nodes.old frames.now top.used top.depth top.last nodes.new result.used result.depth result.last }
-{
-    let mut up = top;
-    while up.depth > 0 {
-        let below = up.depth - 1;
-        let Frame::RightOf(op, left) = frames[below] else {
-            return up;
-        };
-        if strength_of(op) > strength {
-            return up;
+impl Parser {
+    /// Makes a node of the frame on top and the node that was read last, as long as the two join.
+    fn join<F: Fn(Frame, u16) -> Option<Node>>(&mut self, joins: F)
+        requires callable { F.IsAlwaysCallable joins }
+        requires room { self.old.used + self.old.depth ≤ 4097 }
+        ensures size { self.new.used + self.new.depth ≡ self.old.used + self.old.depth }
+        ensures joined { Joined (F.post joins) self.old self.new }
+    {
+        while self.depth > 0 {
+            let below = self.depth - 1;
+            let Some(node) = joins(self.frames[below], self.last) else {
+                return;
+            };
+            self.depth = below;
+            self.add(node);
         }
-        put_node(nodes, up.used, Node::Binary(op, left, up.last));
-        up = Top {
-            used: up.used + 1,
-            depth: below,
-            last: up.used,
-        };
     }
-    up
-}
 
-/// Applies the nots that stand before the operand that was read last.
-pub(crate) fn invert(nodes: &mut [u16; ROOM], frames: &[Frame; DEPTH], top: Top) -> Top
-    requires { top.used + top.depth ≤ 4097 }
-    ensures size { result.used + result.depth ≡ top.used + top.depth }
-    ensures inverted { Inverted nodes.old frames.now top.used top.depth top.last nodes.new result.used result.depth result.last }
-{
-    let mut up = top;
-    while up.depth > 0 {
-        let below = up.depth - 1;
-        let Frame::Not = frames[below] else {
-            return up;
-        };
-        put_node(nodes, up.used, Node::Not(up.last));
-        up = Top {
-            used: up.used + 1,
-            depth: below,
-            last: up.used,
-        };
+    /// Joins the operands that wait for operators which bind at least as tightly as one of the strength.
+    pub fn climb(&mut self, strength: u16)
+        requires { self.old.used + self.old.depth ≤ 4097 }
+        ensures size { self.new.used + self.new.depth ≡ self.old.used + self.old.depth }
+        ensures climbs { Climbs strength self.old self.new }
+    {
+        self.join(
+            |frame: Frame, last: u16| -> Option<Node>
+                ensures { JoinsOperator strength frame last result }
+            {
+                match frame {
+                    Frame::RightOf(op, left) if strength_of(op) <= strength => {
+                        Some(Node::Binary(op, left, last))
+                    }
+                    _ => None,
+                }
+            },
+        );
     }
-    up
-}
 
-/// Closes the innermost block: its statements, one after the other, with a skip at the end.
-pub(crate) fn close(nodes: &mut [u16; ROOM], frames: &[Frame; DEPTH], top: Top) -> Top
-    requires { top.used + top.depth ≤ 4096 }
-    ensures size { result.used + result.depth ≡ top.used + top.depth + 1 }
-    ensures closes { Closes nodes.old frames.now top.used top.depth nodes.new result.used result.depth result.last }
-{
-    put_node(nodes, top.used, Node::Skip);
-    let mut up = Top {
-        used: top.used + 1,
-        depth: top.depth,
-        last: top.used,
-    };
-    while up.depth > 0 {
-        let below = up.depth - 1;
-        let Frame::Done(statement) = frames[below] else {
-            return up;
-        };
-        put_node(nodes, up.used, Node::Seq(statement, up.last));
-        up = Top {
-            used: up.used + 1,
-            depth: below,
-            last: up.used,
-        };
+    /// Applies the nots that stand before the operand that was read last.
+    pub fn invert(&mut self)
+        requires { self.old.used + self.old.depth ≤ 4097 }
+        ensures size { self.new.used + self.new.depth ≡ self.old.used + self.old.depth }
+        ensures inverts { Inverts self.old self.new }
+    {
+        self.join(
+            |frame: Frame, last: u16| -> Option<Node>
+                ensures { JoinsNot frame last result }
+            {
+                match frame {
+                    Frame::Not => Some(Node::Not(last)),
+                    _ => None,
+                }
+            },
+        );
     }
-    up
+
+    /// Closes the innermost block: its statements, one after the other, with a skip at the end.
+    pub fn close(&mut self)
+        requires { HasRoom self.old }
+        ensures size { self.new.used + self.new.depth ≡ self.old.used + self.old.depth + 1 }
+        ensures closes { Closes self.old self.new }
+    {
+        self.add(Node::Skip);
+        self.join(
+            |frame: Frame, last: u16| -> Option<Node>
+                ensures { JoinsStatement frame last result }
+            {
+                match frame {
+                    Frame::Done(statement) => Some(Node::Seq(statement, last)),
+                    _ => None,
+                }
+            },
+        );
+    }
 }

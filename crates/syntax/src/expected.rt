@@ -1,12 +1,9 @@
 //! What could come next, for messages.
-ghost use Rattle.syntax.specs.Expects.{ExpectsIn, ExpectsAfter};
+ghost use Rattle.syntax.specs.Expects.{ExpectsAfter};
 
-use super::frame::{DEPTH, Frame};
 use super::shape::LIMIT;
-use super::state::{State, Top};
-use super::statement::read;
-use super::tree::ROOM;
-use lexer::Token;
+use super::state::{Parser, State};
+use std::fmt;
 
 /// What a program could go on with.
 #[derive(Clone, Copy, Debug, PartialEq, Eq)]
@@ -25,24 +22,45 @@ pub enum Expected {
     Semicolon,
 }
 
-/// What a state could go on with.
-fn expected_in(state: State) -> Expected
-    ensures { ExpectsIn state result }
-{
-    match state {
-        State::Statement(_) => Expected::Statement,
-        State::NameRead(_, _) => Expected::Assign,
-        State::RepeatRead(_) => Expected::Number,
-        State::RoundsRead(_, _) => Expected::Times,
-        State::DelayRead(_) => Expected::Name,
-        State::OutRead(_, _) => Expected::Comma,
-        State::OutComma(_, _) => Expected::Name,
-        State::CounterRead(_, _, _) => Expected::Comma,
-        State::LengthNext(_, _, _) => Expected::Number,
-        State::Ended(_) => Expected::Semicolon,
-        State::Operand(_) => Expected::Expression,
-        State::Operated(_) => Expected::Operator,
-        State::Refused => Expected::Statement,
+impl fmt::Display for Expected {
+    ghost use Rattle.std.specs.Prelude.{Some};
+    ghost use Rattle.syntax.specs.Texts.{expected_text};
+
+    ghost output = { λ e. Some (expected_text e) };
+
+    fn fmt<W: fmt::Write>(&self, f: &mut fmt::Formatter<W>) -> fmt::Result {
+        f.write_str(match self {
+            Expected::Statement => "a statement",
+            Expected::Expression => "an expression",
+            Expected::Operator => "an operator or the end of the expression",
+            Expected::Assign => "':='",
+            Expected::Number => "a number",
+            Expected::Times => "'times'",
+            Expected::Name => "a name",
+            Expected::Comma => "a comma",
+            Expected::Semicolon => "a semicolon",
+        })
+    }
+}
+
+impl From<State> for Expected {
+    ghost use Rattle.syntax.specs.Expects.{ExpectsIn};
+
+    ghost from_gives = { ExpectsIn };
+
+    /// What a state could go on with.
+    fn from(state: State) -> Expected {
+        match state {
+            State::Statement => Expected::Statement,
+            State::NameRead(_) => Expected::Assign,
+            State::RepeatRead | State::LengthNext(_, _) => Expected::Number,
+            State::RoundsRead(_) => Expected::Times,
+            State::DelayRead | State::OutComma(_) => Expected::Name,
+            State::OutRead(_) | State::CounterRead(_, _) => Expected::Comma,
+            State::Ended => Expected::Semicolon,
+            State::Operand => Expected::Expression,
+            State::Operated => Expected::Operator,
+        }
     }
 }
 
@@ -50,23 +68,7 @@ fn expected_in(state: State) -> Expected
 pub fn expected_at(tokens: &[u16]) -> Expected
     ensures { ExpectsAfter tokens.now result }
 {
-    let mut nodes = [0; ROOM];
-    let mut frames = [Frame::Bracket; DEPTH];
-    let mut state = State::Statement(Top {
-        used: 0,
-        depth: 0,
-        last: 0,
-    });
-    let count = (tokens.len() / 2).min(LIMIT);
-    let mut at = 0;
-    while at < count {
-        let token = Token::from_pair(tokens[2 * at], tokens[2 * at + 1]);
-        let next = read(state, token, &mut nodes, &mut frames);
-        if let State::Refused = next {
-            return expected_in(state);
-        }
-        state = next;
-        at += 1;
-    }
-    expected_in(state)
+    let end = (2 * LIMIT).min(tokens.len());
+    let (state, _) = Parser::new().read_all(&tokens[..end]);
+    Expected::from(state)
 }

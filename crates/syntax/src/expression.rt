@@ -1,131 +1,102 @@
 //! One token of an expression.
-ghost use Rattle.std.specs.Prelude.{◌≡◌, ◌+◌, ◌≤◌};
-ghost use Rattle.syntax.specs.Reading.{total, Read, Prefixes, Finishes, closer};
+ghost use Rattle.syntax.specs.Reading.{HasRoom, TakesOne, Read, Prefixes, Finishes};
 
-use super::build::put_node;
-use super::climb::{climb, invert};
-use super::frame::{DEPTH, Frame, push};
-use super::mark::same_mark;
+use super::frame::Frame;
 use super::node::Node;
 use super::operator::strength_of;
-use super::state::{State, Top};
-use super::tree::ROOM;
+use super::state::{Parser, State};
+use base::Op;
 use lexer::{Mark, Token};
 
-/// A mark before an operand.
-fn prefix(mark: Mark, frames: &mut [Frame; DEPTH], top: Top) -> State
-    requires { top.used + top.depth ≤ 4096 }
-    ensures within { total result ≤ top.used + top.depth + 1 }
-    ensures reads { Prefixes mark frames.old top frames.new result }
-{
-    match mark {
-        Mark::Not => State::Operand(push(frames, top, Frame::Not)),
-        Mark::Open => State::Operand(push(frames, top, Frame::Bracket)),
-        _ => State::Refused,
+impl Parser {
+    /// A mark before an operand.
+    fn prefix(&mut self, mark: Mark) -> Option<State>
+        requires { HasRoom self.old }
+        ensures within { TakesOne self.old self.new result }
+        ensures reads { Prefixes mark self.old self.new result }
+    {
+        match mark {
+            Mark::Not => {
+                self.push(Frame::Not);
+                Some(State::Operand)
+            }
+            Mark::Open => {
+                self.push(Frame::Bracket);
+                Some(State::Operand)
+            }
+            _ => None,
+        }
     }
-}
 
-/// The token where an operand is expected.
-pub(crate) fn read_operand(
-    token: Token,
-    nodes: &mut [u16; ROOM],
-    frames: &mut [Frame; DEPTH],
-    top: Top,
-) -> State
-    requires { top.used + top.depth ≤ 4096 }
-    ensures within { total result ≤ top.used + top.depth + 1 }
-    ensures reads { Read token nodes.old frames.old (State.Operand top) nodes.new frames.new result }
-{
-    let next = Top {
-        used: top.used + 1,
-        depth: top.depth,
-        last: top.used,
-    };
-    match token {
-        Token::Number(n) => {
-            put_node(nodes, top.used, Node::Literal(n));
-            State::Operated(invert(nodes, frames, next))
+    /// The token where an operand is expected.
+    pub fn read_operand(&mut self, token: Token) -> Option<State>
+        requires { HasRoom self.old }
+        ensures within { TakesOne self.old self.new result }
+        ensures reads { Read token self.old State.Operand self.new result }
+    {
+        match token {
+            Token::Number(n) => {
+                self.add(Node::Literal(n));
+                self.invert();
+                Some(State::Operated)
+            }
+            Token::Name(i) => {
+                self.add(Node::Variable(i));
+                self.invert();
+                Some(State::Operated)
+            }
+            Token::Operator(_) => None,
+            Token::Mark(mark) => self.prefix(mark),
         }
-        Token::Name(i) => {
-            put_node(nodes, top.used, Node::Variable(i));
-            State::Operated(invert(nodes, frames, next))
-        }
-        Token::Operator(_) => State::Refused,
-        Token::Mark(mark) => prefix(mark, frames, top),
     }
-}
 
-/// The mark that ends an expression, by the frame below it.
-fn closing_mark(frame: Frame) -> Mark
-    ensures { result ≡ closer frame }
-{
-    match frame {
-        Frame::Bracket => Mark::Close,
-        Frame::AssignTo(_) => Mark::Semicolon,
-        Frame::ConditionIn => Mark::Then,
-        _ => Mark::Comma,
+    /// A mark after an operand before which all is joined up to a bracket or the whole expression.
+    fn finish(&mut self, mark: Mark) -> Option<State>
+        requires { HasRoom self.old }
+        ensures within { TakesOne self.old self.new result }
+        ensures finishes { Finishes mark self.old self.new result }
+    {
+        let below = self.depth.checked_sub(1)?;
+        match (self.frames[below], mark) {
+            (Frame::Bracket, Mark::Close) => {
+                self.depth = below;
+                self.invert();
+                Some(State::Operated)
+            }
+            (Frame::AssignTo(name), Mark::Semicolon) => {
+                self.add(Node::Assign(name, self.last));
+                self.frames[below] = Frame::Done(self.last);
+                Some(State::Statement)
+            }
+            (Frame::ConditionIn, Mark::Then) => {
+                self.frames[below] = Frame::ThenIn(self.last);
+                Some(State::Statement)
+            }
+            (Frame::DelayIn(out, counter), Mark::Comma) => {
+                self.depth = below;
+                Some(State::LengthNext(out, counter))
+            }
+            _ => None,
+        }
     }
-}
 
-/// A mark after an operand before which all is joined up to a bracket or the whole expression.
-fn finish(mark: Mark, nodes: &mut [u16; ROOM], frames: &mut [Frame; DEPTH], top: Top) -> State
-    requires { top.used + top.depth ≤ 4096 }
-    ensures within { total result ≤ top.used + top.depth + 1 }
-    ensures finishes { Finishes mark nodes.old frames.old top nodes.new frames.new result }
-{
-    if top.depth == 0 {
-        return State::Refused;
-    }
-    let below = top.depth - 1;
-    let frame = frames[below];
-    if !same_mark(closing_mark(frame), mark) {
-        return State::Refused;
-    }
-    let inner = Top {
-        used: top.used,
-        depth: below,
-        last: top.last,
-    };
-    match frame {
-        Frame::Bracket => State::Operated(invert(nodes, frames, inner)),
-        Frame::AssignTo(name) => {
-            put_node(nodes, top.used, Node::Assign(name, top.last));
-            frames[below] = Frame::Done(top.used);
-            State::Statement(Top {
-                used: top.used + 1,
-                depth: top.depth,
-                last: top.used,
-            })
+    /// The token after an operand.
+    pub fn read_operator(&mut self, token: Token) -> Option<State>
+        requires { HasRoom self.old }
+        ensures within { TakesOne self.old self.new result }
+        ensures reads { Read token self.old State.Operated self.new result }
+    {
+        match token {
+            Token::Operator(op) => {
+                self.climb(strength_of(op));
+                self.push(Frame::RightOf(op, self.last));
+                Some(State::Operand)
+            }
+            Token::Mark(mark) => {
+                self.climb(strength_of(Op::Or));
+                self.finish(mark)
+            }
+            _ => None,
         }
-        Frame::ConditionIn => {
-            frames[below] = Frame::ThenIn(top.last);
-            State::Statement(top)
-        }
-        Frame::DelayIn(out, counter) => State::LengthNext(inner, out, counter),
-        _ => State::Refused,
-    }
-}
-
-/// The token after an operand.
-pub(crate) fn read_operator(
-    token: Token,
-    nodes: &mut [u16; ROOM],
-    frames: &mut [Frame; DEPTH],
-    top: Top,
-) -> State
-    requires { top.used + top.depth ≤ 4096 }
-    ensures within { total result ≤ top.used + top.depth + 1 }
-    ensures reads { Read token nodes.old frames.old (State.Operated top) nodes.new frames.new result }
-{
-    match token {
-        Token::Operator(op) => {
-            let up = climb(strength_of(op), nodes, frames, top);
-            State::Operand(push(frames, up, Frame::RightOf(op, up.last)))
-        }
-        Token::Mark(mark) => {
-            let up = climb(4, nodes, frames, top);
-            finish(mark, nodes, frames, up)
-        }
-        _ => State::Refused,
     }
 }

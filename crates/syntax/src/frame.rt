@@ -1,12 +1,9 @@
-//! The parser's stack.
-ghost use Rattle.std.specs.Prelude.{◌≡◌, ◌≤◌, slice_set};
-ghost use Rattle.syntax.specs.Reading.{deeper};
-
-use super::state::Top;
+//! The frames of the parser's stack.
+use super::shape::LIMIT;
 use base::Op;
 
 /// As many frames as there are tokens, and one more.
-pub(crate) const DEPTH: usize = 4097;
+pub(crate) const DEPTH: usize = LIMIT + 1;
 
 /// What is put aside until more of the program is read; trees by their nodes.
 #[derive(Clone, Copy)]
@@ -31,17 +28,4 @@ pub(crate) enum Frame {
     ConditionIn,
     /// The output and the counter of the delay whose condition the expression is.
     DelayIn(u16, u16),
-}
-
-/// Puts a frame on top.
-pub(crate) fn push(frames: &mut [Frame; DEPTH], top: Top, frame: Frame) -> Top
-    requires { top.depth ≤ 4096 }
-    ensures top { result ≡ deeper top }
-    ensures frames { frames.new ≡ slice_set frames.old top.depth frame }
-{
-    frames[top.depth] = frame;
-    Top {
-        depth: top.depth + 1,
-        ..top
-    }
 }

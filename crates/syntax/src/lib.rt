@@ -9,7 +9,6 @@ mod climb;
 mod expected;
 mod expression;
 mod frame;
-mod mark;
 pub mod node;
 mod operator;
 mod parser;
@@ -24,13 +23,11 @@ pub use parser::parse;
 pub use tree::Tree;
 
 /// The theorems of the parser.
-pub fn parser_is_right() -> u8
+pub fn parser_is_right()
     ensures sound { Sound }
     ensures complete { Complete }
     ensures unique { OneTree }
     ensures placed { RightPlace }
     ensures once { OnePlace }
     ensures fits { ProgramFits }
-{
-    0
-}
+{}

@@ -49,7 +49,7 @@ fn decode(i: u16, kind: u16, a: u16, b: u16, c: u16) -> Node
 fn number_at(nodes: &[u16], at: usize) -> u16
     ensures { result ≡ slice_index nodes.now at }
 {
-    if at < nodes.len() { nodes[at] } else { 0 }
+    nodes.get(at).copied().unwrap_or(0)
 }
 
 /// The node at an index.

@@ -4,6 +4,7 @@ ghost use Rattle.syntax.specs.Grammar.{strength};
 
 use base::Op;
 
+#[tactic(auto, unfolding(crate::specs::Grammar::strength))]
 /// How tightly an operator binds: products most, then sums, comparisons, `and`, `or`.
 pub fn strength_of(op: Op) -> u16
     ensures small { result ≤ 4 }

@@ -1,7 +1,7 @@
 //! Pairs of numbers that are tokens.
-ghost use Rattle.std.specs.Prelude.{◌≡◌};
+ghost use Rattle.std.specs.Prelude.{◌≡◌, Decides};
 ghost use Rattle.lexer.specs.Pairs.{shaped};
-ghost use Rattle.syntax.specs.Shape.{Checked};
+ghost use Rattle.syntax.specs.Shape.{IsFine, Checked};
 
 /// More tokens than these are not taken.
 pub(crate) const LIMIT: usize = 4096;
@@ -19,24 +19,21 @@ fn is_shaped(kind: u16, value: u16) -> bool
     }
 }
 
+/// Whether a pair is whole, a token, and not one too many.
+fn is_fine(at: usize, pair: &[u16]) -> bool
+    ensures { Decides result (IsFine at pair.now) }
+{
+    at < LIMIT && pair.len() == 2 && is_shaped(pair[0], pair[1])
+}
+
 /// The first pair that is no token, that is not whole, or that is one too many.
 pub(crate) fn misshapen(tokens: &[u16]) -> Option<u64>
     ensures { Checked tokens.now result }
 {
-    let count = tokens.len() / 2;
-    let mut at = 0;
-    while at < count {
-        if at >= LIMIT {
+    for (at, pair) in tokens.chunks(2).enumerate() {
+        if !is_fine(at, pair) {
             return Some(at as u64);
         }
-        if !is_shaped(tokens[2 * at], tokens[2 * at + 1]) {
-            return Some(at as u64);
-        }
-        at += 1;
     }
-    if 2 * at < tokens.len() {
-        Some(at as u64)
-    } else {
-        None
-    }
+    None
 }

@@ -2,8 +2,10 @@
 ghost use Rattle.std.specs.Prelude.{◌≡◌};
 ghost use Rattle.syntax.specs.Program.{Held};
 
-/// Four numbers for each of 4,096 tokens, and for one node more.
-pub const ROOM: usize = 16388;
+use super::shape::LIMIT;
+
+/// Four numbers for each token, and for one node more.
+pub const ROOM: usize = 4 * (LIMIT + 1);
 
 /// A program, made of tokens by `parse` alone.
 #[derive(Drop)]

@@ -1,20 +1,24 @@
+use Rattle.std.proofs.lemmas.Result.{err_from_is_err_and}
 use Rattle.syntax.proofs.Place.{right_place}
 use Rattle.syntax.proofs.Wholes.{few, program_of, held}
 use Rattle.syntax.proofs.parser.parse.Goals as goal
 
-pub read_all-requires : goal.read_all-requires
-read_all-requires c = few c.args.tokens.now c.in_default.ensures
+pub read_program-requires-clause-few : goal.read_program-requires-clause-few
+read_program-requires-clause-few c = few c.args.tokens.now c.in_default.ensures
+
+pub returns-in_err-root : goal.returns-in_err-root
+returns-in_err-root c =
+    let p = err_from_is_err_and c.from_residual.result c.from_residual.ensures.1 in
+    let k = c.in_err-root.ensures in
+    rw (p.1, p.2, k.1) (c.in_default.ensures, right_place _ _ k.2)
 
 pub invariant_of-result : goal.invariant_of-result
 invariant_of-result c =
     let w = c.in_default.ensures in
     let xs = c.args.tokens.now in
-    record { holds = ∣ held xs c.read_all.new.nodes c.in-Ok.root w (program_of xs c.read_all.new.nodes c.in-Ok.root w c.in-Ok.ensures) ∣₁ }
+    record { holds = ∣ held xs c.read_program.new.self.nodes c.in_ok-root.root w (program_of xs c.read_program.new.self.nodes c.in_ok-root.root w c.in_ok-root.ensures) ∣₁ }
 
-pub returns-in-Ok : goal.returns-in-Ok
-returns-in-Ok c =
+pub returns : goal.returns
+returns c =
     let w = c.in_default.ensures in
-    (w, program_of c.args.tokens.now c.read_all.new.nodes c.in-Ok.root w c.in-Ok.ensures)
-
-pub returns-in-Err : goal.returns-in-Err
-returns-in-Err c = (c.in_default.ensures, right_place _ _ c.in-Err.ensures)
+    (w, program_of c.args.tokens.now c.read_program.new.self.nodes c.in_ok-root.root w c.in_ok-root.ensures)
