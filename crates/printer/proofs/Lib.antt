@@ -1,5 +1,4 @@
 pub mod ReadsBack
 pub mod Putting
 pub mod PutStatements
-pub mod Sizes
 pub mod Rewrites

@@ -1,5 +1,5 @@
 -- Tokens written one after another.
-use Rattle.std.proofs.Common.{◌≡◌, ℕ, suc, ◌+◌, ◌*◌, ◌≤◌, Bool, true, false, cond, ltb, List, [], ◌∷◌, ◌++◌, length, set, sym, refl, ap, ◌∙◌, subst, append-nil, arith, length-append}
+use Rattle.std.proofs.Common.{◌≡◌, ℕ, suc, ◌+◌, ◌*◌, ◌/◌, ◌<◌, ◌≤◌, min, true, false, lt-ltb, le-ltb, ltb, List, [], ◌∷◌, ◌++◌, length, set, sym, refl, ap, ◌∙◌, arith, length-append}
 use Rattle.base.specs.declared.Op.{Op}
 use Rattle.syntax.specs.Ast.{Expr, lit, var, invert, binary}
 use Rattle.lexer.specs.declared.Token.{Token}
@@ -7,10 +7,11 @@ use Rattle.lexer.specs.declared.Token.TheVariants.{Number as number, Name as nam
 use Rattle.lexer.specs.Pairs.{kind, value, pairs}
 use Rattle.lexer.specs.declared.Mark.TheVariants.{Not as not_word, Open as open_mark, Close as close_mark}
 use Rattle.syntax.specs.Grammar.{strength}
-use Rattle.syntax.specs.Printer.{bracketed, print_expr}
+use Rattle.syntax.specs.Printer.{print_expr}
 use Rattle.base.specs.Rooms.{write}
 use Rattle.syntax.specs.Tree.{Holds}
 use Rattle.printer.specs.Printed.{Puts, PutsExpr}
+use Rattle.printer.specs.declared.writer.Writer.{Writer}
 use Rattle.base.proofs.RoomLaws.{write_append, length_write, write_two}
 use Rattle.lexer.proofs.PairLaws.{pairs_length}
 
@@ -20,61 +21,63 @@ pairs_append [] us = refl
 pairs_append (t ∷ ts) us = ap (λ (x : List ℕ). kind t ∷ (value t ∷ x)) (pairs_append ts us)
 
 -- nothing
-pub puts_none : (room : List ℕ) (at : ℕ) → Puts [] room at at room
+pub puts_none : (w : Writer) → Puts [] w w
 unfolding pairs write
-puts_none room at = record { ends = λ h. omega arith; wrote = λ h. refl }
+puts_none w = record { counts = omega arith; wrote = λ k h. refl }
 
--- one token
-pub puts_one : (room : List ℕ) (at k v : ℕ) (t : Token) → ◌≡◌ {A = ℕ × ℕ} (k, v) (kind t, value t) → Puts (t ∷ []) room at (at + 2) (set (set room at k) (at + 1) v)
+-- one token, where there is room for it and where there is none
+pub puts_one : (w w' : Writer) (t : Token) (k v : ℕ) → ◌≡◌ {A = ℕ × ℕ} (k, v) (kind t, value t) → min w'.count 65536 ≡ min (w.count + 1) 65536 → w'.room.now ≡ set (set w.room.now (2 * w.count) k) (2 * w.count + 1) v → Puts (t ∷ []) w w'
 unfolding pairs
-puts_one room at k v t p =
-    record { ends = λ h. refl; wrote = λ h. ap (λ (x : ℕ × ℕ). set (set room at x.0) (at + 1) x.1) p ∙ write_two room at (kind t) (value t) }
+puts_one w w' t k v p counted is =
+    record { counts = counted; wrote = λ few h. is ∙ ap (λ (x : ℕ × ℕ). set (set w.room.now (2 * w.count) x.0) (2 * w.count + 1) x.1) p ∙ write_two w.room.now (2 * w.count) (kind t) (value t) }
+
+pub puts_past : (w w' : Writer) (t : Token) → length w.room.now / 2 ≤ w.count → min w'.count 65536 ≡ min (w.count + 1) 65536 → Puts (t ∷ []) w w'
+puts_past w w' t past counted = record { counts = counted; wrote = λ few h. absurd (omega arith) }
 
 infixr 30 ◌then◌
 -- one after the other
-pub ◌then◌ : {ts us : List Token} {room room' room'' : List ℕ} {at mid end : ℕ} → Puts ts room at mid room' → Puts us room' mid end room'' → Puts (ts ++ us) room at end room''
-◌then◌ {ts} {us} {room} {room'} {room''} {at} {mid} {end} p q =
+pub ◌then◌ : {ts us : List Token} {w w' w'' : Writer} → Puts ts w w' → Puts us w' w'' → Puts (ts ++ us) w w''
+◌then◌ {ts} {us} {w} {w'} {w''} p q =
     let all : length (ts ++ us) ≡ length ts + length us = length-append ts us in
-    let fits : at + 2 * length (ts ++ us) ≤ length room → at + 2 * length ts ≤ length room = λ h. omega arith in
-    let kept : at + 2 * length (ts ++ us) ≤ length room → length room' ≡ length room = λ h. ap length (p.wrote (fits h)) ∙ length_write room at (pairs ts) in
-    let rest : at + 2 * length (ts ++ us) ≤ length room → mid + 2 * length us ≤ length room' = λ h. omega (arith, all, kept h, p.ends (fits h)) in
     record {
-      ends = λ h. omega (arith, all, p.ends (fits h), q.ends (rest h));
-      wrote = λ h.
-          let long : at + length (pairs ts) ≡ mid = omega (arith, pairs_length ts, p.ends (fits h)) in
-          q.wrote (rest h) ∙ ap (λ (x : List ℕ). write x mid (pairs us)) (p.wrote (fits h)) ∙ ap (λ (x : ℕ). write (write room at (pairs ts)) x (pairs us)) (sym long)
-          ∙ sym (write_append room at (pairs ts) (pairs us)) ∙ ap (write room at) (sym (pairs_append ts us));
+      counts = omega (arith, all, p.counts, q.counts);
+      wrote = λ few h.
+          let first : w'.room.now ≡ write w.room.now (2 * w.count) (pairs ts) = p.wrote (omega arith) (omega arith) in
+          let next : w'.count ≡ w.count + length ts = omega (arith, p.counts) in
+          let kept : length w'.room.now ≡ length w.room.now = ap length first ∙ length_write w.room.now (2 * w.count) (pairs ts) in
+          let long : 2 * w.count + length (pairs ts) ≡ 2 * w'.count = omega (arith, pairs_length ts) in
+          q.wrote (omega arith) (omega arith) ∙ ap (λ (x : List ℕ). write x (2 * w'.count) (pairs us)) first
+          ∙ ap (λ (x : ℕ). write (write w.room.now (2 * w.count) (pairs ts)) x (pairs us)) (sym long)
+          ∙ sym (write_append w.room.now (2 * w.count) (pairs ts) (pairs us)) ∙ ap (write w.room.now (2 * w.count)) (sym (pairs_append ts us));
     }
 
-surrounded : (b : Bool) (ts : List Token) → cond b [] (mark open_mark ∷ []) ++ (ts ++ cond b [] (mark close_mark ∷ [])) ≡ bracketed b ts
-surrounded true ts = append-nil ts
-surrounded false ts = refl
-
 -- the tokens of an expression by those of its parts
-pub put_literal : {room room' : List ℕ} {at end : ℕ} (l n : ℕ) → Puts (number n ∷ []) room at end room' → (e : Expr) → e ≡ lit n → Puts (print_expr l e) room at end room'
-unfolding print_expr
-put_literal l n p e z = rw z p
+module _ {w w' : Writer} where
+  pub put_literal : (l n : ℕ) → Puts (number n ∷ []) w w' → (e : Expr) → e ≡ lit n → Puts (print_expr l e) w w'
+  unfolding print_expr
+  put_literal l n p e z = rw z p
 
-pub put_variable : {room room' : List ℕ} {at end : ℕ} (l n : ℕ) → Puts (name n ∷ []) room at end room' → (e : Expr) → e ≡ var n → Puts (print_expr l e) room at end room'
-unfolding print_expr
-put_variable l n p e z = rw z p
+  pub put_variable : (l n : ℕ) → Puts (name n ∷ []) w w' → (e : Expr) → e ≡ var n → Puts (print_expr l e) w w'
+  unfolding print_expr
+  put_variable l n p e z = rw z p
 
-pub put_not : (m : List ℕ) {room r₁ room' : List ℕ} {at p₁ end : ℕ} (l a : ℕ) → Puts (mark not_word ∷ []) room at p₁ r₁ → PutsExpr m a 0 r₁ p₁ end room' → (e : Expr) → (x : Expr) × (e ≡ invert x) × Holds m a x → Puts (print_expr l e) room at end room'
+pub put_not : (m : List ℕ) {w w₁ w' : Writer} (l a : ℕ) → Puts (mark not_word ∷ []) w w₁ → PutsExpr m a 0 w₁ w' → (e : Expr) → (x : Expr) × (e ≡ invert x) × Holds m a x → Puts (print_expr l e) w w'
 unfolding print_expr
 put_not m l a p q e i = rw i.1 (p then q i.0 i.2)
 
-at_level : {room room' : List ℕ} {at end : ℕ} (j l : ℕ) (e : Expr) → j ≡ l → Puts (print_expr j e) room at end room' → Puts (print_expr l e) room at end room'
-at_level {room} {room'} {at} {end} j l e z p = subst (λ (x : ℕ). Puts (print_expr x e) room at end room') z p
-
-pub put_binary : (m : List ℕ) {room r₁ r₂ r₃ r₄ room' : List ℕ} {at p₁ p₂ p₃ p₄ end : ℕ} (l : ℕ) (o : Op) (s a b : ℕ) (bare : Bool) → s ≡ strength o → bare ≡ ltb s l →
-    Puts (cond bare [] (mark open_mark ∷ [])) room at p₁ r₁ → PutsExpr m a (s + 1) r₁ p₁ p₂ r₂ → Puts (operator o ∷ []) r₂ p₂ p₃ r₃ → PutsExpr m b s r₃ p₃ p₄ r₄ → Puts (cond bare [] (mark close_mark ∷ [])) r₄ p₄ end room' →
-    (e : Expr) → (x : Expr) × (y : Expr) × (e ≡ binary o x y) × Holds m a x × Holds m b y → Puts (print_expr l e) room at end room'
+-- an operation that is strong enough stands bare; else it stands in brackets, as where any is expected
+pub put_bare : (m : List ℕ) {w w₁ w₂ w' : Writer} (l : ℕ) (o : Op) (s a b : ℕ) → s ≡ strength o → s < l → PutsExpr m a (s + 1) w w₁ → Puts (operator o ∷ []) w₁ w₂ → PutsExpr m b s w₂ w' →
+    (e : Expr) → (x : Expr) × (y : Expr) × (e ≡ binary o x y) × Holds m a x × Holds m b y → Puts (print_expr l e) w w'
 unfolding print_expr
-put_binary m {room = room} {room' = room'} {at = at} {end = end} l o s a b bare z w h₁ h₂ h₃ h₄ h₅ e i =
-    let above : s + 1 ≡ suc (strength o) = omega (arith, z) in
-    let left = at_level (s + 1) (suc (strength o)) i.0 above (h₂ i.0 i.3) in
-    let right = at_level s (strength o) i.1 z (h₄ i.1 i.4) in
-    let body : List Token = print_expr (suc (strength o)) i.0 ++ (operator o ∷ print_expr (strength o) i.1) in
-    let same : cond bare [] (mark open_mark ∷ []) ++ (body ++ cond bare [] (mark close_mark ∷ [])) ≡ bracketed (ltb (strength o) l) body =
-    surrounded bare body ∙ ap (λ (t : Bool). bracketed t body) (w ∙ ap (λ (x : ℕ). ltb x l) z) in
-    subst (λ (ts : List Token). Puts ts room at end room') (same ∙ ap (print_expr l) (sym i.2)) (h₁ then ((left then h₃ then right) then h₅))
+put_bare m l o s a b z strong p q r e i =
+    let bare : ltb (strength o) l ≡ true = lt-ltb _ _ (omega arith) in
+    let above : suc (strength o) ≡ s + 1 = omega arith in
+    rw (i.2, bare, above, ← z) (p i.0 i.3 then q then r i.1 i.4)
+
+pub put_bracketed : (m : List ℕ) {w w₁ w₂ w' : Writer} (i l : ℕ) (o : Op) (s : ℕ) → s ≡ strength o → s ≤ 4 → l ≤ s → Puts (mark open_mark ∷ []) w w₁ → PutsExpr m i 5 w₁ w₂ → Puts (mark close_mark ∷ []) w₂ w' →
+    (e : Expr) → Holds m i e → (x : Expr) × (y : Expr) × (e ≡ binary o x y) → Puts (print_expr l e) w w'
+unfolding print_expr
+put_bracketed m {w} {w₁} {w₂} {w'} i l o s z small weak p q r e h k =
+    let bare : ltb (strength o) 5 ≡ true = lt-ltb _ _ (omega arith) in
+    let not_bare : ltb (strength o) l ≡ false = le-ltb _ _ (omega arith) in
+    rw (k.2, not_bare) (rw (k.2, bare) at (p then q e h then r))

@@ -1,5 +1,5 @@
 -- What is written of a tree that is held in nodes. Assumes nothing: these are definitions.
-use Rattle.std.specs.Prelude.{◌≡◌, ℕ, ◌+◌, ◌*◌, ◌≤◌, min, List, [], ◌∷◌, ◌++◌, length, None, Result, nat_le}
+use Rattle.std.specs.Prelude.{◌≡◌, ℕ, ◌+◌, ◌*◌, ◌<◌, ◌≤◌, min, List, [], ◌∷◌, ◌++◌, length, None, Result, nat_le}
 use Rattle.base.specs.declared.Refusal.{Refusal}
 use Rattle.base.specs.Refusals.{unless, Answered}
 use Rattle.base.specs.Rooms.{write}
@@ -10,32 +10,31 @@ use Rattle.lexer.specs.Pairs.{pairs}
 use Rattle.syntax.specs.Ast.{Expr, Stmt}
 use Rattle.syntax.specs.Printer.{print_expr, print}
 use Rattle.syntax.specs.Tree.{Holds, HoldsSetting, HoldsStmt}
+use Rattle.printer.specs.declared.writer.Writer.{Writer}
 
--- where there is room for them, tokens are written from a place on, up to a place, and all else is as it was
-pub record Puts (ts : List Token) (room : List ℕ) (at end : ℕ) (room' : List ℕ) : Type 0 where
-  pub ends : at + 2 * length ts ≤ length room → end ≡ at + 2 * length ts
-  pub wrote : at + 2 * length ts ≤ length room → room' ≡ write room at (pairs ts)
+-- a writer goes on in the same room
+abbrev pub SameRoom : (w w' : Writer) → Type 0
+SameRoom w w' = w'.room.ghost_name ≡ w.room.ghost_name
+
+-- tokens are counted, up to 65,536; where there is room for them, they are written after those that were counted before, and all else is as it was
+pub record Puts (ts : List Token) (w w' : Writer) : Type 0 where
+  pub counts : min w'.count 65536 ≡ min (w.count + length ts) 65536
+  pub wrote : w.count + length ts < 65536 → 2 * (w.count + length ts) ≤ length w.room.now → w'.room.now ≡ write w.room.now (2 * w.count) (pairs ts)
 
 -- the tokens of whatever expression, or statement, a node holds
-abbrev pub PutsExpr : (m : List ℕ) (i l : ℕ) (room : List ℕ) (at end : ℕ) (room' : List ℕ) → Type 0
-PutsExpr m i l room at end room' = (e : Expr) → Holds m i e → Puts (print_expr l e) room at end room'
+abbrev pub PutsExpr : (m : List ℕ) (i l : ℕ) (w w' : Writer) → Type 0
+PutsExpr m i l w w' = (e : Expr) → Holds m i e → Puts (print_expr l e) w w'
 
-abbrev pub PutsStmt : (m : List ℕ) (i : ℕ) (room : List ℕ) (at end : ℕ) (room' : List ℕ) → Type 0
-PutsStmt m i room at end room' = (s : Stmt) → HoldsStmt m i s → Puts (print s) room at end room'
+abbrev pub PutsStmt : (m : List ℕ) (i : ℕ) (w w' : Writer) → Type 0
+PutsStmt m i w w' = (s : Stmt) → HoldsStmt m i s → Puts (print s) w w'
 
 -- a delay's condition and length, and what ends it
-abbrev pub PutsSetting : (m : List ℕ) (i : ℕ) (room : List ℕ) (at end : ℕ) (room' : List ℕ) → Type 0
-PutsSetting m i room at end room' = (e : Expr) (n : ℕ) → HoldsSetting m i e n → Puts (print_expr 5 e ++ (mark comma ∷ (number n ∷ (mark semicolon ∷ [])))) room at end room'
+abbrev pub PutsSetting : (m : List ℕ) (i : ℕ) (w w' : Writer) → Type 0
+PutsSetting m i w w' = (e : Expr) (n : ℕ) → HoldsSetting m i e n → Puts (print_expr 5 e ++ (mark comma ∷ (number n ∷ (mark semicolon ∷ [])))) w w'
 
--- how many they are, up to 65,536
-abbrev pub SizedExpr : (m : List ℕ) (i l r : ℕ) → Type 0
-SizedExpr m i l r = (e : Expr) → Holds m i e → r ≡ min (length (print_expr l e)) 65536
-
+-- a number says how many tokens the program that the node holds is printed as
 abbrev pub SizedStmt : (m : List ℕ) (i r : ℕ) → Type 0
-SizedStmt m i r = (s : Stmt) → HoldsStmt m i s → r ≡ min (length (print s)) 65536
-
-abbrev pub SizedSetting : (m : List ℕ) (i r : ℕ) → Type 0
-SizedSetting m i r = (e : Expr) (n : ℕ) → HoldsSetting m i e n → r ≡ min (length (print_expr 5 e)) 65536 + 3
+SizedStmt m i r = (s : Stmt) → HoldsStmt m i s → r ≡ length (print s)
 
 -- the program that the node holds is printed at the room's start, and counted; or the room is too short for it, and is as it was
 abbrev pub Prints : (m : List ℕ) (i : ℕ) (room : List ℕ) → Result ℕ Refusal → (room' : List ℕ) → Type 0

@@ -5,11 +5,10 @@ use Rattle.base.specs.Delays.{delayed}
 use Rattle.base.specs.declared.Op.{Op}
 use Rattle.base.specs.Stores.{Store, update, cells}
 use Rattle.base.specs.Words.{bit, truthy, apply_op, op_fault, first_of}
-use Rattle.syntax.specs.Ast.{Expr, Stmt, delay}
+use Rattle.syntax.specs.Ast.{Expr, Stmt, skip, delay}
 use Rattle.syntax.specs.Tree.{HoldsStmt}
 use Rattle.syntax.specs.Node.{IsExpr, IsStmt, IsSetting}
-use Rattle.syntax.specs.declared.node.Node.{Node}
-use Rattle.syntax.specs.declared.node.Node.TheVariants.{Literal, Variable, Not, Binary, Skip, Assign, Seq, Branch, Repeat, Delay, Setting, Broken}
+use Rattle.syntax.specs.declared.node.Node.TheVariants.{Literal, Variable, Not, Binary, Assign, Seq, Branch, Repeat, Delay, Setting}
 use Rattle.semantics.specs.Eval.{Values, eval, faults, iterate, exec}
 use Rattle.semantics.specs.Needs.{stmt_need}
 use Rattle.semantics.specs.Evaluated.{values_in, Valued, ValuesExpr, Ran, RunsDelay, RunsStmt}
@@ -124,19 +123,7 @@ module _ (m : List ℕ) (x elapsed rounds : ℕ) (vars : List ℕ) (fault : ℕ)
       let e : rounds - done ≡ zero = omega arith in
       rw i.1 (λ near. rw e at (p i.0 i.2 near))
 
--- a node of another kind holds nothing, or a skip
-pub run_other : (m : List ℕ) (elapsed : ℕ) (vars : List ℕ) (fault : ℕ) (r : Node) → ((v x : ℕ) → r ≡ Assign v x → ⊥) → ((x y : ℕ) → r ≡ Seq x y → ⊥) → ((x y z : ℕ) → r ≡ Branch x y z → ⊥) → ((n x : ℕ) → r ≡ Repeat n x → ⊥) → ((a b x : ℕ) → r ≡ Delay a b x → ⊥) →
-    (s : Stmt) → IsStmt m r s → Ran elapsed s vars fault vars fault
+-- a skip does nothing
+pub run_skip : (elapsed : ℕ) (vars : List ℕ) (fault : ℕ) (s : Stmt) → s ≡ skip → Ran elapsed s vars fault vars fault
 unfolding exec
-run_other m elapsed vars fault (Literal n) a b c d e s h = absurd h
-run_other m elapsed vars fault (Variable n) a b c d e s h = absurd h
-run_other m elapsed vars fault (Not x) a b c d e s h = absurd h
-run_other m elapsed vars fault (Binary o x y) a b c d e s h = absurd h
-run_other m elapsed vars fault Skip a b c d e s h = rw h (λ near. refl)
-run_other m elapsed vars fault (Assign v x) a b c d e s h = absurd (a v x refl)
-run_other m elapsed vars fault (Seq x y) a b c d e s h = absurd (b x y refl)
-run_other m elapsed vars fault (Branch x y z) a b c d e s h = absurd (c x y z refl)
-run_other m elapsed vars fault (Repeat n x) a b c d e s h = absurd (d n x refl)
-run_other m elapsed vars fault (Delay o p x) a b c d e s h = absurd (e o p x refl)
-run_other m elapsed vars fault (Setting x n) a b c d e s h = absurd h
-run_other m elapsed vars fault Broken a b c d e s h = absurd h
+run_skip elapsed vars fault s e = rw e (λ near. refl)

@@ -6,6 +6,7 @@ use Rattle.base.specs.Stores.{cells}
 use Rattle.base.specs.Words.{first_of}
 use Rattle.syntax.specs.Ast.{Expr, Stmt, delay}
 use Rattle.syntax.specs.Tree.{Holds, HoldsSetting, HoldsStmt}
+use Rattle.semantics.specs.declared.interpreter.Scan.{Scan}
 use Rattle.semantics.specs.Eval.{Values, eval, faults, exec}
 use Rattle.semantics.specs.Needs.{stmt_need}
 
@@ -32,6 +33,13 @@ RunsDelay m i elapsed out counter vars fault vars' fault' = (e : Expr) (preset :
 
 abbrev pub RunsStmt : (m : List ℕ) (i elapsed : ℕ) (vars : List ℕ) (fault : ℕ) (vars' : List ℕ) (fault' : ℕ) → Type 0
 RunsStmt m i elapsed vars fault vars' fault' = (s : Stmt) → HoldsStmt m i s → Ran elapsed s vars fault vars' fault'
+
+-- a scan goes on with the same program, over the same variables
+pub record SameScan (r r' : Scan) : Type 0 where
+  pub nodes : r'.nodes.now ≡ r.nodes.now
+  pub elapsed : r'.elapsed ≡ r.elapsed
+  pub vars : r'.vars.ghost_name ≡ r.vars.ghost_name
+  pub kept : length r'.vars.now ≡ length r.vars.now
 
 -- one run of whatever statement a node holds; refused, and then nothing is changed, where there are fewer variables than it reaches
 abbrev pub Evaluates : {A : Type 0} (m : List ℕ) (i elapsed : ℕ) (vars : List ℕ) (fault : ℕ) → Result A Refusal → (vars' : List ℕ) (fault' : ℕ) → Type 0

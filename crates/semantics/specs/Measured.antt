@@ -1,5 +1,5 @@
 -- What is found out of a tree before it runs, in the numbers of the code. Assumes nothing: these are definitions.
-use Rattle.std.specs.Prelude.{◌≡◌, ℕ, ◌+◌, ◌≤◌, min, List}
+use Rattle.std.specs.Prelude.{◌≡◌, ℕ, min, List}
 use Rattle.syntax.specs.Ast.{Expr, Stmt}
 use Rattle.syntax.specs.Tree.{Holds, HoldsSetting, HoldsStmt}
 use Rattle.semantics.specs.Needs.{Need, expr_need, stmt_need}
@@ -11,13 +11,6 @@ pub record Measures (a : Need) (r : Needs) : Type 0 where
   pub height : r.height ≡ a.height
   pub depth : r.depth ≡ a.depth
   pub reach : r.reach ≡ a.reach
-
--- numbers as they come of the lowest i + 1 nodes, whatever those hold
-pub record Small (i : ℕ) (r : Needs) : Type 0 where
-  pub cost : r.cost ≤ 20001
-  pub height : r.height ≤ i + 1
-  pub depth : r.depth ≤ i + 1
-  pub reach : r.reach ≤ 65536
 
 -- the needs of whatever expression, condition of a delay or statement a node holds
 abbrev pub MeasuredExpr : (m : List ℕ) (i : ℕ) → Needs → Type 0

@@ -1,90 +1,108 @@
 //! One run of a tree, worked out as its meaning says.
-ghost use Rattle.std.specs.Prelude.{◌≡◌, ℕ, ◌<◌, ◌≤◌, length};
+ghost use Rattle.std.specs.Prelude.{◌≡◌, ◌<◌, length};
 ghost use Rattle.base.specs.Stores.{update, cells};
-ghost use Rattle.semantics.specs.Evaluated.{ValuesExpr, RunsDelay, RunsStmt};
+ghost use Rattle.semantics.specs.Evaluated.{SameScan, ValuesExpr, RunsDelay, RunsStmt};
 
 use base::words::count_time;
 use syntax::node::{Node, node_at};
 
-/// What a variable holds, 0 where there is none.
-fn variable(vars: &[u64], i: u16) -> u64
-    ensures { result ≡ cells vars.now i }
-{
-    let i = i as usize;
-    if i < vars.len() { vars[i] } else { 0 }
+/// One scan of a program, so long after the last one, over its variables, with the first fault.
+#[derive(Drop)]
+pub(crate) struct Scan<'a> {
+    pub(crate) nodes: &'a [u16],
+    pub(crate) elapsed: u64,
+    pub(crate) vars: &'a mut [u64],
+    pub(crate) fault: u64,
 }
 
-/// Sets a variable, if there is one.
-fn assign(vars: &mut [u64], i: u16, x: u64)
-    ensures { i < length vars.old → cells vars.new ≡ update (cells vars.old) i x }
-{
-    let i = i as usize;
-    if i < vars.len() {
-        vars[i] = x;
+impl Scan<'_> {
+    /// What a variable holds, 0 where there is none.
+    fn variable(&self, i: u16) -> u64
+        ensures { result ≡ cells self.now.vars.now i }
+    {
+        self.vars.get(i as usize).copied().unwrap_or(0)
     }
-}
 
-/// The value of the expression that a node holds. Its first fault is noted.
-pub(crate) fn value(nodes: &[u16], i: u16, vars: &[u64], fault: &mut u64) -> u64
-    ensures { ValuesExpr nodes.now i vars.now fault.old result fault.new }
-{
-    match node_at(nodes, i) {
-        Node::Literal(n) => n as u64,
-        Node::Variable(v) => variable(vars, v),
-        Node::Not(x) => (value(nodes, x, vars, fault) == 0) as u64,
-        Node::Binary(op, x, y) => {
-            let left = value(nodes, x, vars, fault);
-            let right = value(nodes, y, vars, fault);
-            op.apply(left, right, fault)
+    /// Sets a variable, if there is one.
+    fn assign(&mut self, i: u16, new: u64)
+        ensures same { SameScan self.old self.new }
+        ensures fault { self.new.fault ≡ self.old.fault }
+        ensures sets { i < length self.old.vars.now → cells self.new.vars.now ≡ update (cells self.old.vars.now) i new }
+    {
+        let i = i as usize;
+        // By its index: what `get_mut` lends tells a proof nothing of the other variables.
+        if i < self.vars.len() {
+            self.vars[i] = new;
         }
-        _ => 0,
     }
-}
 
-/// One run of a delay, whose condition and length a node of their own holds.
-fn delay(
-    nodes: &[u16],
-    i: u16,
-    elapsed: u64,
-    out: u16,
-    counter: u16,
-    vars: &mut [u64],
-    fault: &mut u64,
-)
-    ensures { RunsDelay nodes.now i elapsed out counter vars.old fault.old vars.new fault.new }
-{
-    if let Node::Setting(x, preset) = node_at(nodes, i) {
-        let on = value(nodes, x, vars, fault) != 0;
-        count_time(elapsed, vars, out as usize, counter as usize, preset, on);
-    }
-}
-
-/// One run of the statement that a node holds, so long after the last one.
-pub(crate) fn run(nodes: &[u16], i: u16, elapsed: u64, vars: &mut [u64], fault: &mut u64)
-    ensures { RunsStmt nodes.now i elapsed vars.old fault.old vars.new fault.new }
-{
-    match node_at(nodes, i) {
-        Node::Assign(v, x) => {
-            let new = value(nodes, x, vars, fault);
-            assign(vars, v, new);
-        }
-        Node::Seq(x, y) => {
-            run(nodes, x, elapsed, vars, fault);
-            run(nodes, y, elapsed, vars, fault);
-        }
-        Node::Branch(x, y, z) => {
-            if value(nodes, x, vars, fault) == 0 {
-                run(nodes, z, elapsed, vars, fault);
-            } else {
-                run(nodes, y, elapsed, vars, fault);
+    /// The value of the expression that a node holds. Its first fault is noted.
+    fn value(&mut self, i: u16) -> u64
+        ensures same { SameScan self.old self.new }
+        ensures vars { self.new.vars.now ≡ self.old.vars.now }
+        ensures values { ValuesExpr self.old.nodes.now i self.old.vars.now self.old.fault result self.new.fault }
+    {
+        match node_at(self.nodes, i) {
+            Node::Literal(number) => number as u64,
+            Node::Variable(variable) => self.variable(variable),
+            Node::Not(operand) => (self.value(operand) == 0) as u64,
+            Node::Binary(op, left, right) => {
+                let left = self.value(left);
+                let right = self.value(right);
+                op.apply(left, right, &mut self.fault)
             }
+            // No expression.
+            _ => 0,
         }
-        Node::Repeat(rounds, x) => {
-            for _round in 0..rounds {
-                run(nodes, x, elapsed, vars, fault);
+    }
+
+    /// One run of a delay, whose condition and length a node of their own holds.
+    fn delay(&mut self, i: u16, out: u16, counter: u16)
+        ensures same { SameScan self.old self.new }
+        ensures runs { RunsDelay self.old.nodes.now i self.old.elapsed out counter self.old.vars.now self.old.fault self.new.vars.now self.new.fault }
+    {
+        if let Node::Setting(condition, preset) = node_at(self.nodes, i) {
+            let on = self.value(condition) != 0;
+            count_time(
+                self.elapsed,
+                self.vars,
+                out as usize,
+                counter as usize,
+                preset,
+                on,
+            );
+        }
+    }
+
+    /// One run of the statement that a node holds.
+    pub(crate) fn run(&mut self, i: u16)
+        ensures same { SameScan self.old self.new }
+        ensures runs { RunsStmt self.old.nodes.now i self.old.elapsed self.old.vars.now self.old.fault self.new.vars.now self.new.fault }
+    {
+        match node_at(self.nodes, i) {
+            Node::Assign(variable, value) => {
+                let new = self.value(value);
+                self.assign(variable, new);
             }
+            Node::Seq(first, second) => {
+                self.run(first);
+                self.run(second);
+            }
+            Node::Branch(condition, yes, no) => {
+                if self.value(condition) == 0 {
+                    self.run(no);
+                } else {
+                    self.run(yes);
+                }
+            }
+            Node::Repeat(rounds, body) => {
+                for _round in 0..rounds {
+                    self.run(body);
+                }
+            }
+            Node::Delay(out, counter, setting) => self.delay(setting, out, counter),
+            // A skip, or no statement.
+            _ => {}
         }
-        Node::Delay(out, counter, x) => delay(nodes, x, elapsed, out, counter, vars, fault),
-        _ => {}
     }
 }

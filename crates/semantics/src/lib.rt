@@ -11,6 +11,7 @@ ghost use Rattle.semantics.specs.Needs.{stmt_need};
 
 use base::Refusal;
 pub use base::words;
+use interpreter::Scan;
 pub use limits::{Needs, check_limits};
 use syntax::Tree;
 
@@ -40,14 +41,19 @@ pub fn evaluate(tree: &Tree, elapsed: u64, vars: &mut [u64], fault: &mut u64) ->
     if vars.len() < needs(tree).reach as usize {
         return Err(Refusal::Length(2));
     }
-    interpreter::run(tree.nodes(), tree.root(), elapsed, vars, fault);
+    let mut scan = Scan {
+        nodes: tree.nodes(),
+        elapsed,
+        vars,
+        fault: *fault,
+    };
+    scan.run(tree.root());
+    *fault = scan.fault;
     Ok(())
 }
 
 /// The first fault stays, and stops nothing.
-pub fn faults_are_noted() -> u8
+pub fn faults_are_noted()
     ensures stays { FirstStays }
     ensures onward { GoesOn }
-{
-    0
-}
+{}

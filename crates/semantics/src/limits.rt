@@ -6,7 +6,7 @@ ghost use Rattle.semantics.specs.Limits.{passes_limit};
 use base::Refusal;
 
 /// What a run of a program needs at most.
-#[derive(Clone, Copy, Debug, PartialEq, Eq)]
+#[derive(Clone, Copy, Debug, Default, PartialEq, Eq)]
 pub struct Needs {
     /// Instructions; more than are taken count as one too many.
     pub cost: u32,

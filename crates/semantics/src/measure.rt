@@ -1,78 +1,61 @@
 //! What a tree needs, found out by going over it once.
-ghost use Rattle.std.specs.Prelude.{ℕ, ◌+◌, ◌≤◌};
-ghost use Rattle.semantics.specs.Measured.{Small, MeasuredExpr, MeasuredSetting, Measured};
+ghost use Rattle.semantics.specs.Measured.{MeasuredExpr, MeasuredSetting, Measured};
 
 use super::limits::Needs;
 use syntax::node::{Node, node_at};
 
-/// What nothing needs.
-const NOTHING: Needs = Needs {
-    cost: 0,
-    height: 0,
-    depth: 0,
-    reach: 0,
-};
-
-/// What a number needs.
-const VALUE: Needs = Needs {
-    cost: 1,
-    height: 1,
-    depth: 0,
-    reach: 0,
-};
-
 /// What the expression that a node holds needs.
-pub(crate) fn expr_needs(nodes: &[u16], i: u16) -> Needs
-    ensures small { Small i result }
-    ensures measured { MeasuredExpr nodes.now i result }
+fn expr_needs(nodes: &[u16], i: u16) -> Needs
+    ensures { MeasuredExpr nodes.now i result }
 {
     match node_at(nodes, i) {
-        Node::Literal(_n) => VALUE,
-        Node::Variable(v) => VALUE.reaching(v),
-        Node::Not(x) => expr_needs(nodes, x).one_more(),
-        Node::Binary(_op, x, y) => {
-            let left = expr_needs(nodes, x);
-            let right = expr_needs(nodes, y);
+        Node::Literal(_) => Needs::VALUE,
+        Node::Variable(variable) => Needs::VALUE.reaching(variable),
+        Node::Not(operand) => expr_needs(nodes, operand).one_more(),
+        Node::Binary(_, left, right) => {
+            let left = expr_needs(nodes, left);
+            let right = expr_needs(nodes, right);
             left.followed_by(right.raised()).one_more()
         }
-        _ => NOTHING,
+        // No expression.
+        _ => Needs::default(),
     }
 }
 
 /// What the condition of a delay needs.
-pub(crate) fn setting_needs(nodes: &[u16], i: u16) -> Needs
-    ensures small { Small i result }
-    ensures measured { MeasuredSetting nodes.now i result }
+fn setting_needs(nodes: &[u16], i: u16) -> Needs
+    ensures { MeasuredSetting nodes.now i result }
 {
     match node_at(nodes, i) {
-        Node::Setting(x, _preset) => expr_needs(nodes, x),
-        _ => NOTHING,
+        Node::Setting(condition, _) => expr_needs(nodes, condition),
+        // No condition of a delay.
+        _ => Needs::default(),
     }
 }
 
 /// What the statement that a node holds needs.
 pub(crate) fn stmt_needs(nodes: &[u16], i: u16) -> Needs
-    ensures small { Small i result }
-    ensures measured { Measured nodes.now i result }
+    ensures { Measured nodes.now i result }
 {
     match node_at(nodes, i) {
-        Node::Assign(v, x) => expr_needs(nodes, x).one_more().reaching(v),
-        Node::Seq(x, y) => {
-            let first = stmt_needs(nodes, x);
-            let second = stmt_needs(nodes, y);
+        Node::Assign(variable, value) => expr_needs(nodes, value).one_more().reaching(variable),
+        Node::Seq(first, second) => {
+            let first = stmt_needs(nodes, first);
+            let second = stmt_needs(nodes, second);
             first.followed_by(second)
         }
-        Node::Branch(x, y, z) => {
-            let test = expr_needs(nodes, x).one_more();
-            let yes = stmt_needs(nodes, y).one_more();
-            let no = stmt_needs(nodes, z);
+        Node::Branch(condition, yes, no) => {
+            let test = expr_needs(nodes, condition).one_more();
+            let yes = stmt_needs(nodes, yes).one_more();
+            let no = stmt_needs(nodes, no);
             test.followed_by(yes.either(no))
         }
-        Node::Repeat(rounds, x) => stmt_needs(nodes, x).repeated(rounds),
-        Node::Delay(out, counter, x) => {
-            let test = setting_needs(nodes, x).one_more();
+        Node::Repeat(rounds, body) => stmt_needs(nodes, body).repeated(rounds),
+        Node::Delay(out, counter, setting) => {
+            let test = setting_needs(nodes, setting).one_more();
             test.reaching(out).reaching(counter)
         }
-        _ => NOTHING,
+        // A skip, or no statement.
+        _ => Needs::default(),
     }
 }

@@ -16,3 +16,4 @@ pub mod Naming
 pub mod Wholes
 pub mod Expectations
 pub mod Shapes
+pub mod OtherNodes

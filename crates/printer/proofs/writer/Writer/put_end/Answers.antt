@@ -1,0 +1,5 @@
+use Rattle.printer.proofs.Putting.{◌then◌}
+use Rattle.printer.proofs.writer.Writer.put_end.Goals as goal
+
+pub returns-clause-puts : goal.returns-clause-puts
+returns-clause-puts c = c.put_mark.ensures.puts then c.put_mark-2.ensures.puts
