@@ -1,5 +1,5 @@
 -- Tokens that are read as a tree and made into its code. Assumes nothing.
-use Rattle.std.proofs.Common.{◌≡◌, ℕ, ◌*◌, ◌/◌, ◌<◌, ◌≤◌, List, [], ◌∷◌, length, take, Ok, Err, Result, refl, subst, ⊎_elim, arith}
+use Rattle.std.proofs.Common.{ℕ, ◌*◌, ◌<◌, ◌≤◌, List, length, take, Ok, Err, Result, subst, ⊎_elim, arith}
 use Rattle.std.proofs.lemmas.Bool.{cases_lt}
 use Rattle.base.specs.declared.Refusal.{Refusal}
 use Rattle.base.specs.declared.Refusal.TheVariants.{Token, Program, Limit, Room, Length, Off, Time, Stamp, Point}
@@ -9,18 +9,13 @@ use Rattle.syntax.specs.Grammar.{Reads}
 use Rattle.syntax.specs.Names.{Below}
 use Rattle.syntax.specs.Theorems.{OneTree}
 use Rattle.syntax.specs.Shape.{WellShaped}
+use Rattle.syntax.proofs.Wholes.{length_tokens}
 use Rattle.semantics.specs.Eval.{meaning}
 use Rattle.semantics.proofs.Reach.{stmt_reach}
 use Rattle.compiler.specs.Right.{Compiled}
 use Rattle.compiler.specs.Made.{Codes, Makes, MakesRight, NeverShort}
 use Rattle.compiler.proofs.Coding.{coded_right}
 use Rattle.compiler.proofs.Short.{short_code}
-
-pub length_tokens : (xs : List ℕ) → length (tokens_in xs) ≡ length xs / 2
-unfolding tokens_in
-length_tokens [] = refl
-length_tokens (k ∷ []) = omega arith
-length_tokens (k ∷ n ∷ xs) = omega (arith, length_tokens xs)
 
 -- at most 4,096 of them
 pub few_tokens : (xs : List ℕ) → WellShaped xs → length (tokens_in xs) ≤ 4096

@@ -1,11 +1,13 @@
 -- The code of a program is right for it. Assumes nothing.
 use Rattle.std.proofs.Common.{ℕ, [], length, refl, ap, arith}
+use Rattle.std.proofs.lemmas.List.{get_or_past}
 use Rattle.syntax.specs.Ast.{Stmt}
 use Rattle.semantics.specs.Eval.{Values, exec}
 use Rattle.semantics.specs.Needs.{stmt_need}
+use Rattle.compiler.specs.Instr.{stop}
 use Rattle.compiler.specs.Machine.{boot}
 use Rattle.compiler.specs.Compile.{compile, CompileRight}
-use Rattle.compiler.proofs.Runs.{placed_whole, getD_end, Runs, arrives, always, land}
+use Rattle.compiler.proofs.Runs.{placed_whole, Runs, arrives, always, land}
 use Rattle.compiler.proofs.Correct.{on, stmt_does}
 
 -- from the start of the code to its end
@@ -28,5 +30,5 @@ right s =
               same_fault = ap (λ m. m.fault) e;
             },
           );
-      low = λ elapsed r k. always (whole s elapsed r) (getD_end (compile s)) k;
+      low = λ elapsed r k. always (whole s elapsed r) (get_or_past (compile s) _ stop (omega arith)) k;
     }

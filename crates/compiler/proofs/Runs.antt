@@ -34,10 +34,6 @@ pub placed_whole : (c : List Instr) → Placed c 0 c
 placed_whole [] = tt
 placed_whole (i ∷ c) = (refl, placed_later i c 0 c (placed_whole c))
 
-pub getD_end : (c : List Instr) → get_or c (length c) stop ≡ stop
-getD_end [] = refl
-getD_end (i ∷ c) = getD_end c
-
 -- from m to m' in at most k instructions, within the limits on the way and at both ends
 pub data Runs (elapsed : ℕ) (code : List Instr) (lim : Need) : ℕ → Machine → Machine → Type 0 where
   done : {k : ℕ} {m : Machine} → Within lim stop m → Runs elapsed code lim k m m

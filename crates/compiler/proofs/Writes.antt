@@ -1,8 +1,8 @@
 -- Code written into a room as numbers. Assumes nothing.
-use Rattle.std.proofs.Common.{◌≡◌, ℕ, ◌+◌, ◌*◌, ◌≤◌, List, [], ◌∷◌, ◌++◌, length, sym, refl, ap, ◌∙◌, append_assoc, arith, length-append}
+use Rattle.std.proofs.Common.{◌≡◌, ℕ, ◌+◌, ◌*◌, List, [], ◌∷◌, ◌++◌, length, sym, refl, ap, ◌∙◌, append_assoc, append-nil, arith, length-append}
 use Rattle.compiler.specs.Instr.{Instr, push, load, jump, jump_if_zero, enter, back, tick, stop}
 use Rattle.base.specs.Rooms.{write}
-use Rattle.base.proofs.RoomLaws.{write_append, write_swap}
+use Rattle.base.proofs.RoomLaws.{write_append}
 use Rattle.compiler.specs.Code.{word, words}
 
 pub words_append : (a b : List Instr) → words (a ++ b) ≡ words a ++ words b
@@ -29,14 +29,11 @@ unfolding words
 length_words [] = refl
 length_words (i ∷ c) = length-append (word i) (words c) ∙ omega (arith, length_word i, length_words c)
 
--- code after code
-pub write_code_lem : (room : List ℕ) (p : ℕ) (a b : List Instr) → write room p (words (a ++ b)) ≡ write (write room p (words a)) (p + 4 * length a) (words b)
-write_code_lem room p a b = rw (words_append a b, write_append room p (words a) (words b), length_words a)
+-- one instruction
+pub words_one : (i : Instr) → words (i ∷ []) ≡ word i
+unfolding words
+words_one i = append-nil (word i)
 
 -- code by parts, at places that are known
 pub write_then : (room : List ℕ) (p q : ℕ) (a b : List Instr) → q ≡ p + 4 * length a → write room p (words (a ++ b)) ≡ write (write room p (words a)) q (words b)
-write_then room p q a b e = rw e (write_code_lem room p a b)
-
--- code of two parts, of which the second was written first
-pub words_swap : (room : List ℕ) (p q : ℕ) (a b : List Instr) → p + 4 * length a ≤ q → write (write room q (words b)) p (words a) ≡ write (write room p (words a)) q (words b)
-words_swap room p q a b h = sym (write_swap room p q (words a) (words b) (omega (arith, length_words a)))
+write_then room p q a b e = rw (e, words_append a b, write_append room p (words a) (words b), length_words a)

@@ -1,5 +1,5 @@
 -- Code as numbers, four to an instruction. Assumes nothing: these are definitions.
-use Rattle.std.specs.Prelude.{ℕ, cond, List, [], ◌∷◌, ◌++◌, ◌==◌}
+use Rattle.std.specs.Prelude.{ℕ, cond, List, [], ◌∷◌, ◌++◌, ◌==◌, slice_index}
 use Rattle.base.specs.Ops.{op_code, op_of}
 use Rattle.compiler.specs.Instr.{Instr, push, load, store, invert, binary, jump, jump_if_zero, enter, back, tick, stop}
 
@@ -27,6 +27,10 @@ abbrev pub instr_of : (kind a b c : ℕ) → Instr
 instr_of kind a b c =
     cond (kind == 0) (push a) (cond (kind == 1) (load a) (cond (kind == 2) (store a) (cond (kind == 3) invert (cond (kind == 4) (binary (op_of a)) (cond (kind == 5) (jump a)
     (cond (kind == 6) (jump_if_zero a) (cond (kind == 7) (enter a b) (cond (kind == 8) (back a) (cond (kind == 9) (tick a b c) stop)))))))))
+
+-- the instruction of four numbers in a row
+abbrev pub instr_at : List ℕ → Instr
+instr_at ns = instr_of (slice_index ns 0) (slice_index ns 1) (slice_index ns 2) (slice_index ns 3)
 
 -- the instructions in a row of numbers; what is short of four at its end is none
 unfoldable pub code_in : List ℕ → List Instr

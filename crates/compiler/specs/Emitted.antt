@@ -1,44 +1,31 @@
--- Code that is written into a room one part after another. Assumes nothing: these are definitions.
-use Rattle.std.specs.Prelude.{◌≡◌, ℕ, ◌+◌, ◌*◌, ◌/◌, ◌≤◌, List, [], ◌∷◌, ◌++◌, length, take, drop, None, Result, nat_le}
+-- Code that is made one part after another. Assumes nothing: these are definitions.
+use Rattle.std.specs.Prelude.{◌≡◌, ℕ, ◌+◌, ◌*◌, ◌<◌, ◌≤◌, List, [], ◌∷◌, ◌++◌, length, Ok, Err, Result}
 use Rattle.base.specs.declared.Refusal.{Refusal}
-use Rattle.base.specs.Refusals.{unless, Answered}
+use Rattle.base.specs.declared.Refusal.TheVariants.{Room}
 use Rattle.base.specs.Rooms.{write}
 use Rattle.syntax.specs.Ast.{Expr, Stmt}
 use Rattle.syntax.specs.Tree.{Holds, HoldsSetting, HoldsStmt}
 use Rattle.compiler.specs.Instr.{Instr, tick}
-use Rattle.compiler.specs.Code.{word, words}
+use Rattle.compiler.specs.Code.{words}
 use Rattle.compiler.specs.Compile.{compile_expr, compile}
 
--- where there is room for it, code is written from a place on, up to a place, and all else is as it was
-pub record Appends (c : List Instr) (m : List ℕ) (at : ℕ) (m' : List ℕ) (end : ℕ) : Type 0 where
-  pub ends : at + 4 * length c ≤ length m → end ≡ at + 4 * length c
-  pub wrote : at + 4 * length c ≤ length m → m' ≡ write m at (words c)
+-- code is added, where there is room for it among 4,096 instructions
+pub record Appends (c before after : List Instr) : Type 0 where
+  pub added : length before + length c ≤ 4096 → after ≡ before ++ c
 
--- the instruction of four numbers is written so
-abbrev pub Puts : (kind a b c : ℕ) (m : List ℕ) (at : ℕ) (m' : List ℕ) (end : ℕ) → Type 0
-Puts kind a b c m at m' end = (i : Instr) → word i ≡ kind ∷ a ∷ b ∷ c ∷ [] → Appends (i ∷ []) m at m' end
+-- code is written at the front of a room, and all else is as it was; where the room is too short, so is all of it
+abbrev pub Copies : (c : List Instr) (room : List ℕ) → Result ℕ Refusal → (room' : List ℕ) → Type 0
+Copies c room (Ok n) room' = (4 * length c ≤ length room) × (n ≡ length c) × (room' ≡ write room 0 (words c))
+Copies c room (Err e) room' = (length room < 4 * length c) × (e ≡ Room (length room)) × (room' ≡ room)
 
--- where there is room for an instruction, it is left out for now, at a place that is told
-pub record Reserves (place : ℕ) (m : List ℕ) (at : ℕ) (m' : List ℕ) (end : ℕ) : Type 0 where
-  pub here : place ≡ at
-  pub ends : at + 4 ≤ length m → end ≡ at + 4
-  pub same : m' ≡ m
+-- the code of whatever expression a node holds is added
+abbrev pub EmitsExpr : (t : List ℕ) (n : ℕ) (before after : List Instr) → Type 0
+EmitsExpr t n before after = (e : Expr) → Holds t n e → Appends (compile_expr e) before after
 
--- the instruction of four numbers is written at a place before the end
-pub record Patches (place kind a b c : ℕ) (m : List ℕ) (at : ℕ) (m' : List ℕ) (end : ℕ) : Type 0 where
-  pub ends : end ≡ at
-  pub wrote : place + 4 ≤ at → m' ≡ write m place (kind ∷ a ∷ b ∷ c ∷ [])
+-- the code of whatever delay a node holds the condition and length of is added
+abbrev pub EmitsDelay : (t : List ℕ) (n out counter : ℕ) (before after : List Instr) → Type 0
+EmitsDelay t n out counter before after = (e : Expr) (preset : ℕ) → HoldsSetting t n e preset → Appends (compile_expr e ++ tick out counter preset ∷ []) before after
 
--- the first n numbers stand at the front of a room that is long enough, and all else is as it was
-abbrev pub Copies : (m : List ℕ) (n : ℕ) (room : List ℕ) → Result ℕ Refusal → (room' : List ℕ) → Type 0
-Copies m n room r room' = Answered r (unless (nat_le n (length room)) 4 (length room) None) (λ k. (k ≡ n / 4) × (room' ≡ take n m ++ drop n room)) (room' ≡ room)
-
--- the code of whatever expression, delay or statement a node holds is written so
-abbrev pub EmitsExpr : (t : List ℕ) (n : ℕ) (m : List ℕ) (at : ℕ) (m' : List ℕ) (end : ℕ) → Type 0
-EmitsExpr t n m at m' end = (e : Expr) → Holds t n e → Appends (compile_expr e) m at m' end
-
-abbrev pub EmitsDelay : (t : List ℕ) (n out counter : ℕ) (m : List ℕ) (at : ℕ) (m' : List ℕ) (end : ℕ) → Type 0
-EmitsDelay t n out counter m at m' end = (e : Expr) (preset : ℕ) → HoldsSetting t n e preset → Appends (compile_expr e ++ tick out counter preset ∷ []) m at m' end
-
-abbrev pub Emits : (t : List ℕ) (n : ℕ) (m : List ℕ) (at : ℕ) (m' : List ℕ) (end : ℕ) → Type 0
-Emits t n m at m' end = (s : Stmt) → HoldsStmt t n s → Appends (compile s) m at m' end
+-- the code of whatever statement a node holds is added
+abbrev pub Emits : (t : List ℕ) (n : ℕ) (before after : List Instr) → Type 0
+Emits t n before after = (s : Stmt) → HoldsStmt t n s → Appends (compile s) before after

@@ -1,4 +1,6 @@
 pub mod Instr
+pub mod Listed
+pub mod Texts
 pub mod Machine
 pub mod Code
 pub mod Right

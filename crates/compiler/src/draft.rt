@@ -1,97 +1,103 @@
-//! Code while it is made, in a room of its own.
-ghost use Rattle.std.specs.Prelude.{◌≡◌, ℕ, ◌+◌, ◌≤◌, [], ◌∷◌, length};
-ghost use Rattle.base.specs.Rooms.{write};
-ghost use Rattle.compiler.specs.Emitted.{Puts, Reserves, Patches, Copies};
+//! Code while it is made.
+ghost use Rattle.std.specs.Prelude.{◌≡◌, ◌-◌, ◌≤◌, List, [], ◌∷◌, length, map, take, slice_set};
+ghost use Rattle.compiler.specs.Instr.{Instr, stop};
+ghost use Rattle.compiler.specs.Listed.{listed};
+ghost use Rattle.compiler.specs.Emitted.{Appends, Copies};
 
+use super::instruction::Instruction;
 use base::Refusal;
+use std::marker::Model;
 
-/// Four numbers for each of 4,096 instructions: a program has no more of them than tokens.
-pub(crate) const ROOM: usize = 16384;
+/// How many instructions there are at most: a program has no more of them than tokens.
+const ROOM: usize = 4096;
 
-/// The last place at which there is room for an instruction.
-const LAST: u16 = 16380;
+/// Where an instruction stands that is written later.
+#[derive(Clone, Copy)]
+pub(crate) struct Place(usize);
 
 /// The instructions that were made so far. Those for which there is no room are left out.
+// An array and a length, and no `Vec`: the compiler has no heap.
 #[derive(Drop)]
 pub(crate) struct Draft {
-    numbers: [u16; ROOM],
-    len: u16,
-    ghost within: { len ≤ 16384 },
+    code: [Instruction; ROOM],
+    len: usize,
+}
+
+impl Model for Draft {
+    ghost Value = { List Instr };
+
+    ghost view = { λ d. map listed (take d.len d.code) };
+
+    ghost invariant = { λ d. (d.len ≤ 4096) × (length d.code ≡ 4096) };
 }
 
 impl Draft {
     /// No instruction.
     pub(crate) fn new() -> Self
-        ensures empty { result.len ≡ 0 }
-        ensures room { length result.numbers ≡ 16384 }
+        ensures { result ≡ [] }
     {
         Draft {
-            numbers: [0; ROOM],
+            code: [Instruction::Stop; ROOM],
             len: 0,
         }
     }
 
-    /// The place of the next instruction.
-    pub(crate) fn place(&self) -> u16
-        ensures { result ≡ self.now.len }
+    /// How many instructions there are.
+    fn len(&self) -> usize
+        ensures few { result ≤ 4096 }
+        ensures len { result ≡ length self.now }
     {
         self.len
     }
 
-    /// Writes an instruction's four numbers.
-    fn fill(&mut self, at: u16, kind: u16, a: u16, b: u16, c: u16)
-        requires { at + 4 ≤ 16384 }
-        ensures len { self.new.len ≡ self.old.len }
-        ensures after { self.new.numbers ≡ write self.old.numbers at (kind ∷ a ∷ b ∷ c ∷ []) }
-    {
-        let at = at as usize;
-        self.numbers[at] = kind;
-        self.numbers[at + 1] = a;
-        self.numbers[at + 2] = b;
-        self.numbers[at + 3] = c;
-    }
-
     /// Adds an instruction.
-    pub(crate) fn put(&mut self, kind: u16, a: u16, b: u16, c: u16)
-        ensures grows { self.old.len ≤ self.new.len }
-        ensures puts { Puts kind a b c self.old.numbers self.old.len self.new.numbers self.new.len }
+    pub(crate) fn put(&mut self, instruction: Instruction)
+        ensures { Appends (listed instruction ∷ []) self.old self.new }
     {
-        if self.len <= LAST {
-            self.fill(self.len, kind, a, b, c);
-            self.len += 4;
+        if self.len < ROOM {
+            self.code[self.len] = instruction;
+            self.len += 1;
         }
     }
 
     /// Leaves room for an instruction that is written later, and says where.
-    pub(crate) fn reserve(&mut self) -> u16
-        ensures grows { self.old.len ≤ self.new.len }
-        ensures reserves { Reserves result self.old.numbers self.old.len self.new.numbers self.new.len }
+    pub(crate) fn reserve(&mut self) -> Place
+        ensures here { result.0 ≡ length self.old }
+        ensures reserves { Appends (stop ∷ []) self.old self.new }
     {
-        let at = self.len;
-        if at <= LAST {
-            self.len += 4;
-        }
-        at
+        let place = Place(self.len());
+        self.put(Instruction::Stop);
+        place
+    }
+
+    /// How many instructions stand after a place.
+    pub(crate) fn since(&self, place: Place) -> u16
+        ensures few { result ≤ 4096 }
+        ensures since { result ≡ length self.now - place.0 - 1 }
+    {
+        self.len().saturating_sub(place.0).saturating_sub(1) as u16
     }
 
     /// Writes an instruction for which room was left.
-    pub(crate) fn patch(&mut self, at: u16, kind: u16, a: u16, b: u16, c: u16)
-        ensures { Patches at kind a b c self.old.numbers self.old.len self.new.numbers self.new.len }
+    pub(crate) fn patch(&mut self, place: Place, instruction: Instruction)
+        ensures { self.new ≡ slice_set self.old place.0 (listed instruction) }
     {
-        if at as usize + 4 <= self.len as usize {
-            self.fill(at, kind, a, b, c);
+        if place.0 < self.len {
+            self.code[place.0] = instruction;
         }
     }
 
-    /// Copies the code to the front of a room, if it is long enough, and says how many instructions there are.
+    /// Writes the code to the front of a room, if it is long enough, and says how many instructions there are.
     pub(crate) fn copy_to(&self, room: &mut [u16]) -> Result<u64, Refusal>
-        ensures { Copies self.now.numbers self.now.len room.old result room.new }
+        ensures { Copies self.now room.old result room.new }
     {
-        let size = self.len as usize;
-        if room.len() < size {
+        let len = self.len();
+        if room.len() < 4 * len {
             return Err(Refusal::Room(room.len() as u64));
         }
-        room[0..size].copy_from_slice(&self.numbers[0..size]);
-        Ok(self.len as u64 / 4)
+        for (place, instruction) in self.code[..len].iter().enumerate() {
+            room[4 * place..4 * place + 4].copy_from_slice(&instruction.numbers());
+        }
+        Ok(len as u64)
     }
 }

@@ -2,9 +2,7 @@
 ghost use Rattle.listings.specs.Listing.{Lists, ListsWithinNeeds, NeedsIn, NeedsOf};
 
 use crate::code::listing_text;
-use base::Refusal;
 use headers::header::read_project;
-use lines::words::ReadError;
 use loading::load::{Failure, load, tokens_of};
 use semantics::{Needs, needs};
 use std::alloc::Global;
@@ -14,25 +12,17 @@ use syntax::parse;
 fn needs_in(tokens: &[u16]) -> Result<Needs, Failure>
     ensures { NeedsIn tokens.now result }
 {
-    match parse(tokens) {
-        Ok(tree) => Ok(needs(&tree)),
-        Err(refusal) => Err(Failure::Program(refusal)),
-    }
+    let tree = parse(tokens).map_err(Failure::Program)?;
+    Ok(needs(&tree))
 }
 
 /// What the program of a project needs.
 fn needs_of(heap: Global, project: &str) -> Result<Needs, Failure>
     ensures { NeedsOf project.now result }
 {
-    let header = match read_project(project) {
-        Ok(header) => header,
-        Err(ReadError::At(place)) => return Err(Failure::Header(Refusal::Token(place as u64))),
-        Err(ReadError::Memory) => return Err(Failure::Memory),
-    };
-    match tokens_of(heap, header.program) {
-        Ok(tokens) => needs_in(tokens.as_slice()),
-        Err(failure) => Err(failure),
-    }
+    let header = read_project(project)?;
+    let tokens = tokens_of(heap, header.program)?;
+    needs_in(tokens.as_slice())
 }
 
 /// The listing of a project's code, and what it needs.
@@ -41,15 +31,6 @@ pub fn listing(heap: Global, project: &str) -> Result<String, Failure>
     ensures within { ListsWithinNeeds project.now result }
 {
     let loaded = load(heap, project)?;
-    let need = needs_of(heap, project)?;
-    match listing_text(
-        heap,
-        loaded.code.as_slice(),
-        need.cost,
-        need.height,
-        need.depth,
-    ) {
-        Ok(text) => Ok(text),
-        Err(_) => Err(Failure::Memory),
-    }
+    let needs = needs_of(heap, project)?;
+    Ok(listing_text(heap, loaded.code.as_slice(), needs)?)
 }

@@ -1,20 +1,15 @@
-use Rattle.std.proofs.Common.{rules}
 use Rattle.compiler.proofs.TreeCode.{emit_literal, emit_variable, emit_not, emit_binary}
 use Rattle.compiler.proofs.emit.+emit_expr.Goals as goal
 
 pub returns-in-Literal : goal.returns-in-Literal
-returns-in-Literal t c = record { grows = c.put.ensures.grows; emits = λ e h. emit_literal c.args.nodes.now c.in-Literal.n c.put.ensures.puts e (c.in-Literal.ensures.expr e h) }
+returns-in-Literal t c e h = emit_literal c.args.nodes.now c.in-Literal.n c.put.ensures e (c.in-Literal.ensures.expr e h)
 
 pub returns-in-Variable : goal.returns-in-Variable
-returns-in-Variable t c = record { grows = c.put-in-Variable.ensures.grows; emits = λ e h. emit_variable c.args.nodes.now c.in-Variable.v c.put-in-Variable.ensures.puts e (c.in-Variable.ensures.expr e h) }
+returns-in-Variable t c e h = emit_variable c.args.nodes.now c.in-Variable.v c.put-in-Variable.ensures e (c.in-Variable.ensures.expr e h)
 
 pub returns-in-Not : goal.returns-in-Not
-returns-in-Not t c = record { grows = search rules; emits = λ e h. emit_not c.args.nodes.now c.in-Not.x c.emit_expr.ensures.emits c.put-in-Not.ensures.puts e (c.in-Not.ensures.expr e h) }
+returns-in-Not t c e h = emit_not c.args.nodes.now c.in-Not.x c.emit_expr.ensures c.put-in-Not.ensures e (c.in-Not.ensures.expr e h)
 
 pub returns-in-Binary : goal.returns-in-Binary
-returns-in-Binary t c =
-    record {
-      grows = search rules;
-      emits = λ e h. emit_binary c.args.nodes.now c.in-Binary.op c.in-Binary.x c.in-Binary.y c.number.result c.number.ensures c.emit_expr-in-Binary.ensures.emits c.emit_expr-in-Binary-2.ensures.emits c.put-in-Binary.ensures.puts
-          e (c.in-Binary.ensures.expr e h);
-    }
+returns-in-Binary t c e h =
+    emit_binary c.args.nodes.now c.in-Binary.op c.in-Binary.x c.in-Binary.y c.emit_expr-in-Binary.ensures c.emit_expr-in-Binary-2.ensures c.put-in-Binary.ensures e (c.in-Binary.ensures.expr e h)

@@ -1,8 +1,8 @@
-use Rattle.std.proofs.Common.{◌≡◌, ◌*◌, ◌++◌, drop, string_bytes}
-use Rattle.compiler.specs.Code.{code_in}
+use Rattle.std.proofs.Common.{◌≡◌, map, take, string_bytes}
+use Rattle.compiler.specs.Code.{instr_at}
 use Rattle.listings.specs.ListingText.{code_text}
 use Rattle.listings.proofs.code.listing_text.Given as goal
 
--- the instructions still to come lead to the same
+-- so many lines were written
 abbrev pub invariant-loop-place : goal.invariant-loop-place
-invariant-loop-place l = code_text 0 (code_in l.code) ≡ string_bytes l.out ++ code_text l.place-counter (code_in (drop (4 * l.place-counter) l.code))
+invariant-loop-place l = string_bytes l.out ≡ code_text 0 (map instr_at (take l.place-counter l.instructions))
