@@ -1,4 +1,4 @@
-//! Nodes that are written.
+//! Nodes that are written, as four numbers each: a tree laid out in numbers, without a heap, is a rule of the project.
 ghost use Rattle.std.specs.Prelude.{◌≤◌};
 ghost use Rattle.syntax.specs.Frames.{Written, Wrote};
 

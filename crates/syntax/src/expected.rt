@@ -1,8 +1,8 @@
 //! What could come next, for messages.
 ghost use Rattle.syntax.specs.Expects.{ExpectsAfter};
 
-use super::shape::LIMIT;
 use super::state::{Parser, State};
+use lexer::TOKEN_ROOM;
 use std::fmt;
 
 /// What a program could go on with.
@@ -68,7 +68,7 @@ impl From<State> for Expected {
 pub fn expected_at(tokens: &[u16]) -> Expected
     ensures { ExpectsAfter tokens.now result }
 {
-    let end = (2 * LIMIT).min(tokens.len());
+    let end = TOKEN_ROOM.min(tokens.len());
     let (state, _) = Parser::new().read_all(&tokens[..end]);
     Expected::from(state)
 }

@@ -26,6 +26,7 @@ pub enum Node {
 }
 
 /// The node of four numbers at an index: its children stand below it.
+/// A tree laid out in numbers, without a heap, is a rule of the project.
 fn decode(i: u16, kind: u16, a: u16, b: u16, c: u16) -> Node
     ensures { result ≡ node_of i kind a b c }
 {

@@ -3,10 +3,13 @@ ghost use Rattle.std.specs.Prelude.{◌≡◌, Decides};
 ghost use Rattle.lexer.specs.Pairs.{shaped};
 ghost use Rattle.syntax.specs.Shape.{IsFine, Checked};
 
-/// More tokens than these are not taken.
-pub(crate) const LIMIT: usize = 4096;
+use lexer::MOST_TOKENS;
 
-/// Whether a pair of numbers is a token.
+/// More tokens than these are not taken.
+pub(crate) const LIMIT: usize = MOST_TOKENS as usize;
+
+/// Whether a pair of numbers is a token. Pairs of numbers in a lent room are a rule of the project, and `Token::from_pair`
+/// takes them all.
 fn is_shaped(kind: u16, value: u16) -> bool
     ensures { result ≡ shaped kind value }
 {
