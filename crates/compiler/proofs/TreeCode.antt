@@ -1,10 +1,11 @@
 -- The code of a tree, by the code of its parts. Assumes nothing.
-use Rattle.std.proofs.Common.{◌≡◌, ℕ, ◌+◌, ◌-◌, List, [], ◌∷◌, length, set, refl}
+use Rattle.std.proofs.Common.{◌≡◌, ℕ, ◌+◌, ◌-◌, List, [], ◌∷◌, length, set}
 use Rattle.base.specs.declared.Op.{Op}
 use Rattle.syntax.specs.Ast.{Expr, Stmt}
 use Rattle.syntax.specs.Node.{IsExpr, IsStmt}
 use Rattle.syntax.specs.declared.node.Node.{Node}
-use Rattle.syntax.specs.declared.node.Node.TheVariants.{Literal, Variable, Not, Binary, Skip, Assign, Seq, Branch, Repeat, Delay, Setting, Broken}
+use Rattle.syntax.specs.declared.node.Node.TheVariants.{Literal, Variable, Not, Binary, Assign, Seq, Branch, Repeat, Delay}
+use Rattle.syntax.proofs.OtherNodes.{only_skip}
 use Rattle.compiler.specs.Instr.{Instr, push, load, jump, jump_if_zero, enter, back, stop}
 use Rattle.compiler.specs.Compile.{compile_expr, compile}
 use Rattle.compiler.specs.Emitted.{Appends, EmitsExpr, EmitsDelay, Emits}
@@ -59,15 +60,4 @@ module _ (t : List ℕ) {m m' : List Instr} where
 pub emit_other : (t : List ℕ) (m : List Instr) (r : Node) → ((v x : ℕ) → r ≡ Assign v x → ⊥) → ((x y : ℕ) → r ≡ Seq x y → ⊥) → ((x y z : ℕ) → r ≡ Branch x y z → ⊥) → ((n x : ℕ) → r ≡ Repeat n x → ⊥) → ((a b x : ℕ) → r ≡ Delay a b x → ⊥) →
     (s : Stmt) → IsStmt t r s → Appends (compile s) m m
 unfolding compile
-emit_other t m (Literal n) a b c d e s h = absurd h
-emit_other t m (Variable n) a b c d e s h = absurd h
-emit_other t m (Not x) a b c d e s h = absurd h
-emit_other t m (Binary o x y) a b c d e s h = absurd h
-emit_other t m Skip a b c d e s h = rw h (appends_none m)
-emit_other t m (Assign v x) a b c d e s h = absurd (a v x refl)
-emit_other t m (Seq x y) a b c d e s h = absurd (b x y refl)
-emit_other t m (Branch x y z) a b c d e s h = absurd (c x y z refl)
-emit_other t m (Repeat n x) a b c d e s h = absurd (d n x refl)
-emit_other t m (Delay o p x) a b c d e s h = absurd (e o p x refl)
-emit_other t m (Setting x n) a b c d e s h = absurd h
-emit_other t m Broken a b c d e s h = absurd h
+emit_other t m r a b c d e s h = rw (only_skip t r a b c d e s h) (appends_none m)

@@ -2,7 +2,6 @@
 ghost use Rattle.compiler.specs.Made.{CodesNode, Makes, MakesRight, NeverShort};
 
 use super::draft::Draft;
-use super::emit::emit;
 use base::Refusal;
 use semantics::{check_limits, needs};
 use syntax::{Tree, parse};
@@ -14,7 +13,7 @@ fn write_code(tree: &Tree, room: &mut [u16]) -> Result<u64, Refusal>
 {
     check_limits(needs(tree))?;
     let mut draft = Draft::new();
-    emit(tree.nodes(), tree.root(), &mut draft);
+    draft.put_stmt(tree.nodes(), tree.root());
     draft.copy_to(room)
 }
 

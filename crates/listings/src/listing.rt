@@ -17,6 +17,7 @@ fn needs_in(tokens: &[u16]) -> Result<Needs, Failure>
 }
 
 /// What the program of a project needs.
+// Read and cut anew, since a loaded project holds only what the machine and the controller take.
 fn needs_of(heap: Global, project: &str) -> Result<Needs, Failure>
     ensures { NeedsOf project.now result }
 {
