@@ -1,20 +1,15 @@
 -- More blanks change nothing. Assumes nothing.
 use Rattle.std.proofs.Common.{◌≡◌, ℕ, true, false, List, [], ◌∷◌, ◌++◌, length, sym, refl, ap, ◌∙◌, subst, append-nil, arith, length-append}
-use Rattle.std.specs.Char.{is_ascii_alphanumeric}
-use Rattle.std.proofs.lemmas.Bool.{both_ways, and_parts}
 use Rattle.std.proofs.lemmas.Bool.Decides.{nat_tests}
 use Rattle.lexer.specs.declared.Token.{Token}
 use Rattle.lexer.specs.Token.{blank, Parted, Cuts, none, skip, piece}
 use Rattle.lexer.specs.Laws.{BlanksAlike, BlanksBetween}
-use Rattle.lexer.proofs.Spelling.{Shape, word, sign, becomes, shape, all_alnum, alnum_solid}
+use Rattle.lexer.proofs.Spelling.{Shape, word, sign, becomes, shape, all_alnum}
 use Rattle.lexer.proofs.Cutting.{join, unskip}
 
-blank_apart : (b : ℕ) → blank b ≡ true → is_ascii_alphanumeric b ≡ false
-blank_apart b h = grind (arith, nat_tests)
-
 parted_blank : (w bs rest more : List ℕ) (b : ℕ) → blank b ≡ true → Parted w (bs ++ rest) → Parted w (bs ++ b ∷ more)
-parted_blank w [] rest more b y p a = blank_apart b y
-parted_blank w (c ∷ bs) rest more b y p a = p a
+parted_blank w [] rest more b y p = grind (arith, nat_tests)
+parted_blank w (c ∷ bs) rest more b y p = p
 
 -- what is cut before anything is cut before a blank
 loosen : {f rest : List ℕ} {ts : List Token} (b : ℕ) (more : List ℕ) → blank b ≡ true → Cuts f ts rest → Cuts f ts (b ∷ more)
@@ -33,11 +28,11 @@ Clear (b ∷ bs) = (blank b ≡ false) × Clear bs
 alnum_clear : (bs : List ℕ) → all_alnum bs ≡ true → Clear bs
 unfolding Clear
 alnum_clear [] h = tt
-alnum_clear (b ∷ bs) h = ((alnum_solid b (and_parts (is_ascii_alphanumeric b) (all_alnum bs) h).0).0, alnum_clear bs (and_parts (is_ascii_alphanumeric b) (all_alnum bs) h).1)
+alnum_clear (b ∷ bs) h = grind (arith, nat_tests, alnum_clear bs)
 
 shape_clear : (w : List ℕ) → Shape w → Clear w
 unfolding Clear
-shape_clear _ (word b bs a h) = ((alnum_solid b a).0, alnum_clear bs h)
+shape_clear _ (word b bs a h) = grind (arith, nat_tests, alnum_clear bs h)
 shape_clear _ (sign b a s n l) = (s, tt)
 shape_clear _ becomes = (refl, (refl, tt))
 
@@ -45,12 +40,8 @@ shape_clear _ becomes = (refl, (refl, tt))
 past : (w bs xs ys : List ℕ) (b : ℕ) → Clear w → blank b ≡ true → w ++ bs ≡ xs ++ b ∷ ys → (zs : List ℕ) × (xs ≡ w ++ zs) × (bs ≡ zs ++ b ∷ ys)
 unfolding Clear
 past [] bs xs ys b h y e = (xs, refl, e)
-past (c ∷ w) bs [] ys b h y e = let q : c ≡ b = cc in absurd (both_ways _ h.0 (ap blank q ∙ y))
-past (c ∷ w) bs (x ∷ xs) ys b h y e =
-    let head : c ≡ x = cc in
-    let tail : w ++ bs ≡ xs ++ b ∷ ys = cc in
-    let r = past w bs xs ys b h.1 y tail in
-    (r.0, (λ i. sym head i ∷ r.1 i), r.2)
+past (c ∷ w) bs [] ys b h y e = absurd (grind arith)
+past (c ∷ w) bs (x ∷ xs) ys b h y e = let r = past w bs xs ys b h.1 y (cc) in (r.0, (cc), r.2)
 
 -- a text that is cut is cut on both sides of a blank
 pub record Sides (xs ys : List ℕ) (b : ℕ) (ts : List Token) : Type 0 where

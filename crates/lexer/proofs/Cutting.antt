@@ -41,16 +41,22 @@ unskip y none e = let z : ◌≡◌ {A = ℕ} 0 1 = cc in absurd (omega arith)
 unskip {bs = bs} {us = us} y (skip {bs = cs} h c) e = let q : cs ≡ bs = cc in subst (λ x. Cuts x us []) q c
 unskip y (piece w {bs} t s p c) e = absurd (both_ways _ (sym (ap (λ g. blank (get_or g 0 0)) e) ∙ (solid w bs (shape w t s)).1) y)
 
+-- spellings in front of one text are one
+pub same_pieces : (w bs v cs : List ℕ) (t u : Token) → Spells w t → Spells v u → Parted w bs → Parted v cs → w ++ bs ≡ v ++ cs → (w ≡ v) × (bs ≡ cs)
+same_pieces w bs v cs t u s r p o e =
+    let same : length w ≡ length v = sym (shape_length w bs (shape w t s) p) ∙ ap piece_length e ∙ shape_length v cs (shape v u r) o in (
+      sym (take_at w bs (length w) refl) ∙ ap (take (length w)) e ∙ take_at v cs (length w) (sym same),
+      sym (drop_at w bs (length w) refl) ∙ ap (drop (length w)) e ∙ drop_at v cs (length w) (sym same),
+    )
+
 -- a token in front can only be taken as it is
 pub unpiece : {bs : List ℕ} {us : List Token} (w : List ℕ) (t : Token) → Spells w t → Parted w bs → Cuts (w ++ bs) us [] → (vs : List Token) × (us ≡ t ∷ vs) × Cuts bs vs []
 unpiece {bs} w t s p c =
     let front = solid w bs (shape w t s) in
     let h = head_of c front.0 front.1 in
-    let same : length h.w ≡ length w = sym (shape_length h.w h.bs (shape h.w h.t h.spells) h.parted) ∙ ap piece_length h.split ∙ shape_length w bs (shape w t s) p in
-    let ws : h.w ≡ w = sym (take_at h.w h.bs (length h.w) refl) ∙ ap (take (length h.w)) h.split ∙ take_at w bs _ (sym same) in
-    let left : h.bs ≡ bs = sym (drop_at h.w h.bs (length h.w) refl) ∙ ap (drop (length h.w)) h.split ∙ drop_at w bs _ (sym same) in
-    let is : h.t ≡ t = one_token w h.t t (subst (λ x. Spells x h.t) ws h.spells) s in
-    (h.ts, sym h.tokens ∙ ap (λ x. x ∷ h.ts) is, subst (λ x. Cuts x h.ts []) left h.after)
+    let same = same_pieces h.w h.bs w bs h.t t h.spells s h.parted p h.split in
+    let is : h.t ≡ t = one_token w h.t t (subst (λ x. Spells x h.t) same.0 h.spells) s in
+    (h.ts, sym h.tokens ∙ ap (λ x. x ∷ h.ts) is, subst (λ x. Cuts x h.ts []) same.1 h.after)
 
 -- what cuts the front is what cuts the front of the whole
 pub peel : {f rest : List ℕ} {ts us : List Token} → Cuts f ts rest → Cuts (f ++ rest) us [] → (vs : List Token) × (us ≡ ts ++ vs) × Cuts rest vs []

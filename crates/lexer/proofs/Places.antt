@@ -1,17 +1,16 @@
 -- A text is refused at one place, which counts characters as it counts bytes. Assumes nothing.
-use Rattle.std.proofs.Common.{◌≡◌, ℕ, suc, ◌+◌, ◌<◌, ◌≤◌, true, false, ◌⊎◌, List, [], ◌∷◌, ◌++◌, length, get_or, take, drop, IsAscii, sym, refl, ap, ◌∙◌, subst, inl, inr, append_assoc, arith, length-append, take-append-drop}
+use Rattle.std.proofs.Common.{◌≡◌, ℕ, suc, ◌+◌, ◌<◌, ◌≤◌, true, false, ◌⊎◌, List, [], ◌∷◌, ◌++◌, length, get_or, take, drop, IsAscii, sym, refl, ap, ◌∙◌, subst, append_assoc, arith, length-append, take-append-drop}
 use Rattle.std.specs.Str.{chars}
 use Rattle.std.proofs.lemmas.Str.Ascii.{IsAscii-nil, IsAscii-cons}
-use Rattle.std.proofs.lemmas.List.{take_at, drop_at, length-take-le}
+use Rattle.std.proofs.lemmas.List.{take_at, length-take-le}
 use Rattle.std.proofs.lemmas.Str.{IsAscii-append, chars-IsAscii, chars-append, IsUtf8-from_ascii}
 use Rattle.std.proofs.lemmas.Bool.Decides.{nat_tests}
-use Rattle.std.proofs.lemmas.Bool.{both_ways}
 use Rattle.lexer.specs.declared.Token.{Token}
-use Rattle.lexer.specs.Token.{blank, Spells, Parted, Cuts, none, skip, piece, Stuck}
+use Rattle.lexer.specs.Token.{blank, Cuts, none, skip, piece, Stuck}
 use Rattle.lexer.specs.Outcome.{Broken}
 use Rattle.lexer.specs.Laws.{OnePlace, PlaceInCharacters}
-use Rattle.lexer.specs.Piece.{piece_length}
-use Rattle.lexer.proofs.Spelling.{shape, solid, shape_length, shape_ascii}
+use Rattle.lexer.proofs.Cutting.{same_pieces}
+use Rattle.lexer.proofs.Spelling.{shape, solid, shape_ascii}
 
 -- after k tokens and these, the rest is refused
 record Ends (k : ℕ) (ts : List Token) (rest : List ℕ) : Type 0 where
@@ -23,45 +22,26 @@ record Ends (k : ℕ) (ts : List Token) (rest : List ℕ) : Type 0 where
 -- what is refused at once is not cut further
 at_once : {g s : List ℕ} {us : List Token} (k : ℕ) (rest : List ℕ) → Ends k [] rest → Cuts g us s → rest ≡ g ++ s → k + length us ≤ 4096 → length g ≡ 0
 at_once k rest h none e few = refl
-at_once k rest h (skip y c) e few = absurd (both_ways _ h.firm (ap (λ l. blank (get_or l 0 0)) e ∙ y))
-at_once {s = s} k rest h (piece w {bs} t q p c) e few =
-    elim h.wrong [
-      | inl full ↦ absurd (omega arith)
-      | inr stuck ↦ absurd (stuck w (bs ++ s) t (e ∙ append_assoc w bs s) q p)
-    ]
+at_once k rest h (skip {b} {bs} y c) e few = absurd (grind arith)
+at_once {s = s} k rest h (piece w {bs} t q p c) e few = absurd (grind (arith, append_assoc {A = ℕ}))
 
 one_more : {k : ℕ} {t : Token} {ts : List Token} {rest : List ℕ} → Ends k (t ∷ ts) rest → Ends (suc k) ts rest
-one_more h = record {
-  some = h.some;
-  firm = h.firm;
-  few = omega (arith, h.few);
-  wrong = elim h.wrong [ inl full ↦ inl (omega (arith, full)) | inr stuck ↦ inr stuck ];
-}
-
-same_pieces : (w bs v cs : List ℕ) (t u : Token) → Spells w t → Spells v u → Parted w bs → Parted v cs → w ++ bs ≡ v ++ cs → (length w ≡ length v) × (bs ≡ cs)
-same_pieces w bs v cs t u q r p o e =
-    let same : length w ≡ length v = sym (shape_length w bs (shape w t q) p) ∙ ap piece_length e ∙ shape_length v cs (shape v u r) o in
-    (same, sym (drop_at w bs (length w) refl) ∙ ap (drop (length w)) e ∙ drop_at v cs (length w) (sym same))
+one_more h = grind arith
 
 meet : {f g r s : List ℕ} {ts us : List Token} (k : ℕ) → Cuts f ts r → Cuts g us s → f ++ r ≡ g ++ s → Ends k ts r → Ends k us s → length f ≡ length g
 meet {r = r} k none d e h j = sym (at_once k r h d e j.few)
-meet {s = s} k (skip y c) none e h j = absurd (both_ways _ j.firm (ap (λ l. blank (get_or l 0 0)) (sym e) ∙ y))
+meet {s = s} k (skip y c) none e h j = absurd (grind arith)
 meet {r = r} {s = s} k (skip {bs = bs} y c) (skip {bs = cs} z d) e h j = let tail : bs ++ r ≡ cs ++ s = cc in ap suc (meet k c d tail h j)
-meet {r = r} {s = s} k (skip y c) (piece w {bs} t q p d) e h j = absurd (both_ways _ (solid w (bs ++ s) (shape w t q)).1 (ap (λ l. blank (get_or l 0 0)) (sym (append_assoc w bs s) ∙ sym e) ∙ y))
+meet {r = r} {s = s} k (skip y c) (piece w {bs} t q p d) e h j = absurd (grind (arith, append_assoc {A = ℕ}, solid w (bs ++ s) (shape w t q)))
 meet {r = r} {s = s} k (piece w {bs} t q p c) none e h j = at_once k s j (piece w {bs = bs} t q p c) (sym e) h.few
-meet {r = r} {s = s} k (piece w {bs} t q p c) (skip z d) e h j = absurd (both_ways _ (solid w (bs ++ r) (shape w t q)).1 (ap (λ l. blank (get_or l 0 0)) (sym (append_assoc w bs r) ∙ e) ∙ z))
+meet {r = r} {s = s} k (piece w {bs} t q p c) (skip z d) e h j = absurd (grind (arith, append_assoc {A = ℕ}, solid w (bs ++ r) (shape w t q)))
 meet {r = r} {s = s} k (piece w {bs} t q p c) (piece v {bs = cs} u o n d) e h j =
     let both = same_pieces w (bs ++ r) v (cs ++ s) t u q o p n (sym (append_assoc w bs r) ∙ e ∙ append_assoc v cs s) in
     let left = meet (suc k) c d both.1 (one_more h) (one_more j) in
-    simp length-append (omega (arith, both.0, left))
+    simp length-append (omega (arith, ap length both.0, left))
 
 ends : (text : List ℕ) (p : ℕ) (b : Broken text p) → Ends 0 b.tokens b.rest
-ends text p b = record {
-  some = b.more;
-  firm = b.solid;
-  few = omega (arith, b.few);
-  wrong = elim b.wrong [ inl full ↦ inl (omega (arith, full)) | inr stuck ↦ inr stuck ];
-}
+ends text p b = grind arith
 
 pub one_place : OnePlace
 one_place text p q b d = sym b.place ∙ meet 0 b.cuts d.cuts (b.split ∙ sym d.split) (ends text p b) (ends text q d) ∙ d.place

@@ -1,13 +1,11 @@
 -- What the spellings of tokens have in common, and that each is of one token. Assumes nothing.
-use Rattle.std.proofs.Common.{◌≡◌, ℕ, suc, ◌<◌, Bool, true, false, ◌&&◌, eqb, List, [], ◌∷◌, ◌++◌, length, get_or, take, drop, IsUtf8, IsAscii, decimal, sym, refl, ap, ◌∙◌, subst, inl, inr, arith, lit<, rules}
+use Rattle.std.proofs.Common.{◌≡◌, ℕ, ◌<◌, Bool, true, false, ◌&&◌, eqb, List, [], ◌∷◌, ◌++◌, length, get_or, take, drop, IsUtf8, IsAscii, decimal, sym, refl, ap, ◌∙◌, subst, arith, lit<, rules}
 use Rattle.std.specs.Str.Parse.{digits_value, AllDigits, IsNumeral}
 use Rattle.std.specs.Char.{is_ascii_alphanumeric}
-use Rattle.std.specs.Int.{IsInRange}
-use Rattle.std.proofs.lemmas.Bool.{and_parts, and_from, cond-true, cond-false, cond_both, cases_Bool}
+use Rattle.std.proofs.lemmas.Bool.{and_parts, and_from, cond-true}
 use Rattle.std.proofs.lemmas.Str.Ascii.{IsAscii-nil, IsAscii-cons}
 use Rattle.std.proofs.lemmas.List.{get_or-take}
 use Rattle.std.proofs.lemmas.Str.{IsUtf8-from_ascii}
-use Rattle.std.proofs.lemmas.Str.Parse.{digit_from_value}
 use Rattle.std.proofs.lemmas.Fmt.{decimal_is_IsNumeral}
 use Rattle.std.proofs.lemmas.Bool.Decides.{nat_tests}
 use Rattle.base.specs.declared.Op.{Op}
@@ -29,16 +27,13 @@ pub data Shape : List ℕ → Type 0 where
   sign : (b : ℕ) → is_ascii_alphanumeric b ≡ false → blank b ≡ false → eqb b 58 ≡ false → b < 128 → Shape (b ∷ [])
   becomes : Shape (58 ∷ 61 ∷ [])
 
-digit_alnum : (c : ℕ) → IsInRange 48 57 c → is_ascii_alphanumeric c ≡ true
-digit_alnum c h = grind (arith, nat_tests)
-
 digits_alnum : (ds : List ℕ) → AllDigits 10 ds → all_alnum ds ≡ true
 digits_alnum [] h = refl
-digits_alnum (c ∷ cs) h = and_from _ _ (digit_alnum c (digit_from_value c h.0)) (digits_alnum cs h.1)
+digits_alnum (c ∷ cs) h = grind (arith, nat_tests, digits_alnum cs)
 
 number_shape : (w : List ℕ) → IsNumeral 10 w → Shape w
 number_shape [] h = absurd (omega (arith, h.0))
-number_shape (c ∷ cs) h = word c cs (digit_alnum c (digit_from_value c h.1.0)) (digits_alnum cs h.1.1)
+number_shape (c ∷ cs) h = word c cs (grind (arith, nat_tests)) (digits_alnum cs h.1.1)
 
 name_digits : (i : ℕ) → i < 64 → IsNumeral 10 (decimal i) × (digits_value 10 (decimal i) ≡ i)
 name_digits i h = decimal_is_IsNumeral i (omega arith)
@@ -82,27 +77,21 @@ shape_some _ becomes = omega arith
 
 run_front : (w bs : List ℕ) → all_alnum w ≡ true → is_ascii_alphanumeric (get_or bs 0 0) ≡ false → run (w ++ bs) ≡ length w
 run_front [] [] h p = refl
-run_front [] (b ∷ bs) h p = cond-false _ _ _ p
-run_front (c ∷ w) bs h p =
-    let both = and_parts (is_ascii_alphanumeric c) (all_alnum w) h in
-    cond-true (is_ascii_alphanumeric c) (suc (run (w ++ bs))) 0 both.0 ∙ ap suc (run_front w bs both.1 p)
+run_front [] (b ∷ bs) h p = grind arith
+run_front (c ∷ w) bs h p = grind (arith, run_front w bs)
 
 -- a token's spelling is the piece at the front
 pub shape_length : (w bs : List ℕ) → Shape w → Parted w bs → piece_length (w ++ bs) ≡ length w
-shape_length _ bs (word b cs a h) p = cond-true _ _ _ a ∙ ap suc (run_front cs bs h (p a))
-shape_length _ bs (sign b a s n l) p = cond-false _ _ _ a ∙ cond-false _ _ _ (ap (λ x. x && eqb (get_or bs 0 0) 61) n)
+shape_length _ bs (word b cs a h) p = grind (arith, run_front cs bs h (p a))
+shape_length _ bs (sign b a s n l) p = grind arith
 shape_length _ bs becomes p = refl
 
 run_stops : (bs : List ℕ) → is_ascii_alphanumeric (get_or (drop (run bs) bs) 0 0) ≡ false
 run_stops [] = refl
-run_stops (b ∷ bs) =
-    elim (cases_Bool (is_ascii_alphanumeric b)) [
-      | inl y ↦ ap (λ k. is_ascii_alphanumeric (get_or (drop k (b ∷ bs)) 0 0)) (cond-true _ _ _ y) ∙ run_stops bs
-      | inr n ↦ ap (λ k. is_ascii_alphanumeric (get_or (drop k (b ∷ bs)) 0 0)) (cond-false _ _ _ n) ∙ n
-    ]
+run_stops (b ∷ bs) = grind (arith, run_stops bs)
 
 piece_some : (b : ℕ) (bs : List ℕ) → 0 < piece_length (b ∷ bs)
-piece_some b bs = cond_both (is_ascii_alphanumeric b) _ _ (λ x. 0 < x) (λ _. omega arith) (λ _. cond_both (eqb b 58 && eqb (get_or bs 0 0) 61) 2 1 (λ x. 0 < x) (λ _. lit< tt) (λ _. lit< tt))
+piece_some b bs = grind (arith, nat_tests)
 
 -- the first piece is parted from what follows
 pub piece_parted : (rest : List ℕ) → Parted (take (piece_length rest) rest) (drop (piece_length rest) rest)

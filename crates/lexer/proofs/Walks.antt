@@ -48,20 +48,19 @@ module _ (text : List ℕ) (p : ℕ) (ts : List Token) (f : Front text p ts) whe
   solid : solid_from text p ≤ length text → Front text (solid_from text p) ts
   solid h = subst (Front text (solid_from text p)) (append-nil ts) (further text p _ ts [] f (blanks_cut (drop p text)) h (rw append-nil f.few))
 
-  is_solid : (at : ℕ) → at ≡ solid_from text p → at < length text → blank (get_or text at 0) ≡ false
-  is_solid at e h =
-      ap blank (ap (λ x. get_or text x 0) e ∙ sym (get_or-drop p text (prefix_len blank (drop p text)) 0)) ∙ prefix_len_stops blank (drop p text) 0 (omega (arith, length-drop p text))
-
   past_token : (at q m : ℕ) (t : Token) → Gives text p (length ts) (Some (at, Some t)) q m → Front text q (ts ++ t ∷ [])
   past_token at q m t g =
       let here : Front text at ts = subst (λ x. Front text x ts) (sym g.0) (solid (omega (arith, g.0, g.1))) in
-      let first = g.3.2 in
-      subst (λ x. Front text x (ts ++ t ∷ [])) (sym g.3.1)
-      (further text at g.3.0 ts (t ∷ []) here (one _ t first.spells first.parted) (omega (arith, first.within, length-drop at text, g.1)) (omega (arith, g.2, length_push ts t)))
+      let first = g.2.1.2 in
+      subst (λ x. Front text x (ts ++ t ∷ [])) (sym g.2.1.1)
+      (further text at g.2.1.0 ts (t ∷ []) here (one _ t first.spells first.parted) (omega (arith, first.within, length-drop at text, g.1)) (omega (arith, g.2.0, length_push ts t)))
 
   -- where a token begins, or one should
   next_at : (at : ℕ) → at ≡ solid_from text p → at < length text → Front text at ts × (blank (get_or (drop at text) 0 0) ≡ false) × (0 < length (drop at text))
-  next_at at e h = (subst (λ x. Front text x ts) (sym e) (solid (omega arith)), ap (λ l. blank (get_or l 0 0)) (drop_more text at 0 h) ∙ is_solid at e h, omega (arith, length-drop at text))
+  next_at at e h =
+      let stops = prefix_len_stops blank (drop p text) 0 (omega (arith, length-drop p text)) in
+      let solid_byte = ap blank (ap (λ x. get_or text x 0) e ∙ sym (get_or-drop p text (prefix_len blank (drop p text)) 0)) ∙ stops in
+      (subst (λ x. Front text x ts) (sym e) (solid (omega arith)), ap (λ l. blank (get_or l 0 0)) (drop_more text at 0 h) ∙ solid_byte, omega (arith, length-drop at text))
 
   all_passed : solid_from text p ≡ length text → Cuts text ts []
   all_passed e =
@@ -81,7 +80,7 @@ module _ (text : List ℕ) (p : ℕ) (ts : List Token) (f : Front text p ts) whe
         solid = here.1;
         cuts = here.0.cuts;
         few = f.few;
-        wrong = elim g.2 [ inl full ↦ inl (omega (arith, full, f.few)) | inr stuck ↦ inr stuck ];
+        wrong = elim g.2.0 [ inl full ↦ inl (omega (arith, full, f.few)) | inr stuck ↦ inr stuck ];
       }
 
   -- a text with one more token than these has more of them
@@ -125,7 +124,7 @@ module _ (text : List ℕ) (s u : Tokens) (ts : List Token) (w : Walked text s t
   pub taken : (at : ℕ) (t : Token) → Step s (Some (at, Some t)) u → Walked text u (ts ++ t ∷ [])
   taken at t g =
       let gives = told (Some (at, Some t)) g in
-      record { same = ap (λ x. x.now) g.0 ∙ w.same; count = omega (arith, gives.4, length_push ts t); front = past_token text s.place ts w.front at u.place u.count t gives }
+      record { same = ap (λ x. x.now) g.0 ∙ w.same; count = omega (arith, gives.2.2, length_push ts t); front = past_token text s.place ts w.front at u.place u.count t gives }
 
   pub all_cut : Step s None u → Cuts text ts []
   all_cut g = all_passed text s.place ts w.front (told None g).0
@@ -137,21 +136,21 @@ module _ (text : List ℕ) (s u : Tokens) (ts : List Token) (w : Walked text s t
   refused at g = stopped text s.place ts w.front at u.place u.count (told (Some (at, None)) g)
 
   pub found : (at : ℕ) (o : Option Token) → Step s (Some (at, o)) u → (PlaceOfToken text (length ts) at × EndsIfFewer text (length ts) at) × ((n : ℕ) → Whole text n → length ts < n)
-  found at None g = let gives = told (Some (at, None)) g in (begins_at text s.place ts w.front at gives.0 gives.1, λ n whole. more text s.place ts w.front at n gives.0 gives.1 whole)
-  found at (Some t) g = let gives = told (Some (at, Some t)) g in (begins_at text s.place ts w.front at gives.0 gives.1, λ n whole. more text s.place ts w.front at n gives.0 gives.1 whole)
+  found at o g =
+      let gives = told (Some (at, o)) g in
+      (begins_at text s.place ts w.front at gives.0 gives.1, λ n whole. more text s.place ts w.front at n gives.0 gives.1 whole)
 
 -- n calls of `next` passed as many tokens, or the text is broken and the walk at its end
 Reached : (text : List ℕ) → Tokens → ℕ → Type 0
 Reached text t n = ((ts : List Token) × Walked text t ts × (length ts ≡ n)) ⊎ (((p : ℕ) × Broken text p) × (length t.text.now ≤ t.place))
 
 nothing_left : (s u : Tokens) (at : ℕ) (o : Option Token) → length s.text.now ≤ s.place → Step s (Some (at, o)) u → ⊥
-nothing_left s u at None h g = omega (arith, g.1.0, g.1.1)
-nothing_left s u at (Some t) h g = omega (arith, g.1.0, g.1.1)
+nothing_left s u at o h g = omega (arith, g.1.0, g.1.1)
 
 reach : (text : List ℕ) (s t : Tokens) (at n : ℕ) (o : Option Token) → Reached text s n → Step s (Some (at, o)) t → Reached text t (n + 1)
 unfolding Reached
 reach text s t at n o (inr end) g = absurd (nothing_left s t at o end.1 g)
-reach text s t at n None (inl r) g = inr ((at, refused text s t r.0 r.1 at g), omega (arith, g.1.3, ap (λ x. length x.now) g.0))
+reach text s t at n None (inl r) g = inr ((at, refused text s t r.0 r.1 at g), omega (arith, g.1.2.1, ap (λ x. length x.now) g.0))
 reach text s t at n (Some x) (inl r) g = inl (r.0 ++ x ∷ [], taken text s t r.0 r.1 at x g, omega (arith, r.2, length_push r.0 x))
 
 along : (text : List ℕ) (xs : List (ℕ × Option Token)) (s t : Tokens) (n : ℕ) → Reached text s n → Yields Step s xs t → Reached text t (n + length xs)

@@ -21,11 +21,13 @@ returns-in_default-clause-steps c =
       (
         at.0,
         omega (arith, at.1),
-        elim c.in_default.branch [
-          | in_default-via-in-Some+else-self-lt-MOST_TOKENS w ↦ inl w.if-self-lt-MOST_TOKENS.false
-          | in_default-via-in_default w ↦ inr (subst Stuck (tail text _) w.in_default.ensures)
-        ],
-        refl,
-        refl,
+        (
+          elim c.in_default.branch [
+            | in_default-via-in-Some+else-self-lt-MOST_TOKENS w ↦ inl w.if-self-lt-MOST_TOKENS.false
+            | in_default-via-in_default w ↦ inr (subst Stuck (tail text _) w.in_default.ensures)
+          ],
+          refl,
+          refl,
+        ),
       ),
     )
