@@ -9,15 +9,11 @@ pub use lines::{line, words};
 pub use scripts::script;
 
 /// A theorem, and no work: every project that is written out in the format is read back as itself.
-pub fn projects_are_read_back() -> u8
+pub fn projects_are_read_back()
     ensures { ProjectReadsBack }
-{
-    0
-}
+{}
 
 /// A theorem, and no work: every script that is written out in the format is read back as itself.
-pub fn scripts_are_read_back() -> u8
+pub fn scripts_are_read_back()
     ensures { ScriptReadsBack }
-{
-    0
-}
+{}

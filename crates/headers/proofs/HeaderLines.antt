@@ -1,12 +1,15 @@
 -- A header read line by line.
-use Rattle.std.proofs.Common.{◌≡◌, ℕ, ◌+◌, true, false, List, [], ◌∷◌, ◌++◌, length, drop, set, Some, None, Ok, Err, Option, sym, refl, ap, ◌∙◌, append_assoc, length-append}
-use Rattle.std.proofs.lemmas.List.{drop_at, drop-drop}
+use Rattle.std.proofs.Common.{◌≡◌, ℕ, ◌+◌, true, false, List, [], length, drop, set, Some, None, Ok, Err, Option, Result, sym, refl, ap, ◌∙◌}
 use Rattle.std.proofs.lemmas.Bool.{both_ways}
 use Rattle.headers.specs.declared.header.Header.{Header}
-use Rattle.lines.specs.Words.{Words, end, word, lines_on}
+use Rattle.std.specs.Option.{unwrap_or}
+use Rattle.std.proofs.lemmas.Option.{none-some}
+use Rattle.lines.specs.declared.line.Line.{Line}
+use Rattle.lines.specs.Words.{Words, end, word}
+use Rattle.lines.specs.Lines.{lines_of, AllLeft, Gives}
+use Rattle.lines.proofs.Left.{EndsText, last_ends, ends_more}
 use Rattle.lines.specs.Reading.{took, wrong, and_then, read_as, take_variable, variable_of, ended}
-use Rattle.headers.specs.Header.{take_marks, read_header_line, finished, read_header}
-use Rattle.lines.proofs.LineCuts.{Lacks, first_line, last_line}
+use Rattle.headers.specs.Header.{Plan, blank_header, take_marks, read_header_line, finished, read_header, read_project}
 
 -- a turn of the loop over marks, and its end
 marked : (m : List ℕ) (p : ℕ) (o : Option ℕ) (ws : Words) → and_then (read_as p o ws) (λ v _. take_marks (set m v 1) ws) ≡ and_then (read_as p o ws) (λ v us. take_marks (set m v 1) us)
@@ -29,36 +32,39 @@ marks_next m ws us v some e = marks_more m ws some ∙ rw e
 pub marks_wrong : (m : List ℕ) (ws : Words) (p : ℕ) → ended ws ≡ false → take_variable ws ≡ wrong p → take_marks m ws ≡ wrong p
 marks_wrong m ws p some e = marks_more m ws some ∙ rw e
 
--- one line of the text, its first or its last, and what follows it
-module _ (text : List ℕ) (h h₁ : Header) (here : ℕ) (rest xs ys : List ℕ) (cut : rest ≡ xs ++ (10 ∷ ys)) (lacks : Lacks 10 xs) where
-  pub header_program : read_header_line h here xs ≡ Ok (true, h₁) → read_header text h (lines_on here [] rest) ≡ Ok (finished h₁ (here + (length xs + 1)) (drop (here + (length xs + 1)) text))
-  unfolding read_header
-  header_program told = ap (read_header text h) (first_line here rest xs ys cut lacks) ∙ rw told
+-- what is read of the lines that are left; where none is, none was the line `program`
+abbrev pub read_on : List ℕ → Header → Option Line → Result Plan ℕ
+read_on text h None = Err (length text)
+read_on text h (Some left) = read_header text h (lines_of left)
 
-  pub header_more : read_header_line h here xs ≡ Ok (false, h₁) → read_header text h (lines_on here [] rest) ≡ read_header text h₁ (lines_on (here + (length xs + 1)) [] ys)
-  unfolding read_header
-  header_more told = ap (read_header text h) (first_line here rest xs ys cut lacks) ∙ rw told
+-- before the first line nothing is said
+pub header_begins : (text : List ℕ) (left : Option Line) → AllLeft text left → read_project text ≡ read_on text blank_header left
+unfolding read_project
+header_begins text None h = absurd h
+header_begins text (Some l) h = rw (h.0, h.1) refl
 
-  pub header_wrong : (p : ℕ) → read_header_line h here xs ≡ Err p → read_header text h (lines_on here [] rest) ≡ Err p
+-- what a line does with what is read
+module _ (text : List ℕ) (h : Header) (l : Line) where
+  pub header_program : (h₁ : Header) (p past : Line) (left more : Option Line) → p ≡ unwrap_or more past → past.at ≡ length text → past.text.now ≡ [] → EndsText text left → Gives left (Some l) more → read_header_line h l.at l.text.now ≡ Ok (true, h₁) → read_on text h left ≡ Ok (finished h₁ p.at p.text.now)
   unfolding read_header
-  header_wrong p told = ap (read_header text h) (first_line here rest xs ys cut lacks) ∙ rw told
+  header_program h₁ p past None more u at none e g told = absurd (none-some l (sym g.0))
+  header_program h₁ p past (Some r) None u at none e g told =
+      let place : l.at + length l.text.now ≡ p.at = last_ends text r l e g ∙ sym (ap (λ (q : Line). q.at) u ∙ at) in
+      let rest : [] ≡ p.text.now = sym (ap (λ (q : Line). q.text.now) u ∙ none) in
+      ap (read_header text h) g.lines ∙ rw told (ap (λ n. Ok (finished h₁ n [])) place ∙ ap (λ t. Ok (finished h₁ p.at t)) rest)
+  header_program h₁ p past (Some r) (Some m) u at none e g told =
+      let place : l.at + (length l.text.now + 1) ≡ p.at = sym (ap (λ (q : Line). q.at) u ∙ g.begins) in
+      let rest : drop p.at text ≡ p.text.now = ap (λ (q : Line). drop q.at text) u ∙ sym (ends_more text l (Some r) (Some m) e g).0 ∙ sym (ap (λ (q : Line). q.text.now) u) in
+      ap (read_header text h) g.lines ∙ rw told (ap (λ n. Ok (finished h₁ n (drop n text))) place ∙ ap (λ t. Ok (finished h₁ p.at t)) rest)
 
--- what is left of the text begins after the line
-pub rest_more : (text : List ℕ) (here : ℕ) (rest xs ys : List ℕ) → rest ≡ xs ++ (10 ∷ ys) → rest ≡ drop here text → ys ≡ drop (here + (length xs + 1)) text
-rest_more text here rest xs ys cut e =
-    sym (drop_at (xs ++ (10 ∷ [])) ys (length xs + 1) (length-append xs (10 ∷ [])))
-    ∙ ap (drop (length xs + 1)) (append_assoc xs (10 ∷ []) ys ∙ sym cut ∙ e)
-    ∙ drop-drop (length xs + 1) here text
-
-module _ (text : List ℕ) (h h₁ : Header) (here : ℕ) (rest : List ℕ) (lacks : Lacks 10 rest) where
-  pub last_program : read_header_line h here rest ≡ Ok (true, h₁) → read_header text h (lines_on here [] rest) ≡ Ok (finished h₁ (here + length rest) [])
+  pub header_more : (h₁ : Header) (left more : Option Line) → EndsText text left → Gives left (Some l) more → read_header_line h l.at l.text.now ≡ Ok (false, h₁) → read_on text h left ≡ read_on text h₁ more
   unfolding read_header
-  last_program told = ap (read_header text h) (last_line here rest lacks) ∙ rw told
+  header_more h₁ None more e g told = absurd (none-some l (sym g.0))
+  header_more h₁ (Some r) None e g told = ap (read_header text h) g.lines ∙ rw told (ap Err (last_ends text r l e g))
+  header_more h₁ (Some r) (Some m) e g told = ap (read_header text h) g.lines ∙ rw told
 
-  pub no_program : read_header_line h here rest ≡ Ok (false, h₁) → read_header text h (lines_on here [] rest) ≡ Err (here + length rest)
+  pub header_wrong : (p : ℕ) (left more : Option Line) → Gives left (Some l) more → read_header_line h l.at l.text.now ≡ Err p → read_on text h left ≡ Err p
   unfolding read_header
-  no_program told = ap (read_header text h) (last_line here rest lacks) ∙ rw told
-
-  pub last_wrong : (p : ℕ) → read_header_line h here rest ≡ Err p → read_header text h (lines_on here [] rest) ≡ Err p
-  unfolding read_header
-  last_wrong p told = ap (read_header text h) (last_line here rest lacks) ∙ rw told
+  header_wrong p None more g told = absurd (none-some l (sym g.0))
+  header_wrong p (Some r) None g told = ap (read_header text h) g.lines ∙ rw told
+  header_wrong p (Some r) (Some m) g told = ap (read_header text h) g.lines ∙ rw told

@@ -1,5 +1,5 @@
 -- What a project's text says: a header line by line, and then the program's text. Assumes nothing: these are definitions.
-use Rattle.std.specs.Prelude.{ℕ, ◌+◌, Bool, true, false, cond, List, [], length, drop, replicate, is_some, Some, None, Ok, Err, codes, Option, Result, slice_index_or, slice_set}
+use Rattle.std.specs.Prelude.{ℕ, ◌+◌, Bool, true, false, cond, List, [], map, length, drop, replicate, is_some, Some, None, Ok, Err, codes, Option, Result, slice_index_or, slice_set}
 use Rattle.std.specs.Option.{unwrap_or}
 use Rattle.std.specs.Str.{bytes_eq}
 use Rattle.headers.specs.declared.header.Header.{Header}
@@ -16,17 +16,17 @@ pub record Plan : Type 0 where
   pub program : List ℕ
 
 abbrev pub plan : Project → Plan
-plan p = record { kept = p.kept; inputs = p.inputs; firsts = p.firsts; at = p.at; program = p.program.now }
+plan p = record { kept = p.kept; inputs = p.inputs; firsts = p.firsts; at = p.program.at; program = p.program.text.now }
 
 -- nothing is said yet
 abbrev pub blank_header : Header
-blank_header = record { kept = None; inputs = None; named = replicate 64 false; firsts = replicate 64 0 }
+blank_header = record { kept = None; inputs = None; firsts = replicate 64 None }
 
 -- `kept` and a number, unless that was said before; p is where the line's first word stands
 abbrev pub take_kept : Header → ℕ → Words → Took Header
 take_kept h p ws =
     cond (is_some h.kept) (wrong p)
-    (and_then (take_number ws) (λ n us. took (record { kept = Some n; inputs = h.inputs; named = h.named; firsts = h.firsts }) us))
+    (and_then (take_number ws) (λ n us. took (record h { kept = Some n }) us))
 
 -- variables up to the end of the line, each marked with a 1
 unfoldable pub take_marks : List ℕ → Words → Took (List ℕ)
@@ -37,19 +37,18 @@ take_marks marks (word p w ws) = and_then (read_as p (variable_of w) ws) (λ v _
 abbrev pub take_outside : Header → ℕ → Words → Took Header
 take_outside h p ws =
     cond (is_some h.inputs) (wrong p)
-    (and_then (take_marks (replicate 64 0) ws) (λ m us. took (record { kept = h.kept; inputs = Some m; named = h.named; firsts = h.firsts }) us))
+    (and_then (take_marks (replicate 64 0) ws) (λ m us. took (record h { inputs = Some m }) us))
 
 -- a variable of which nothing was said
-abbrev pub unless_named : List Bool → Option ℕ → Option ℕ
-unless_named named None = None
-unless_named named (Some v) = cond (slice_index_or named v false) None (Some v)
+abbrev pub unless_named : List (Option ℕ) → Option ℕ → Option ℕ
+unless_named firsts None = None
+unless_named firsts (Some v) = cond (is_some (slice_index_or firsts v None)) None (Some v)
 
 -- `first`, such a variable and a value
 abbrev pub take_first : Header → Words → Took Header
 take_first h ws =
-    and_then (take (λ w. unless_named h.named (variable_of w)) ws) (λ v us.
-    and_then (take_value us) (λ n vs.
-    took (record { kept = h.kept; inputs = h.inputs; named = slice_set h.named v true; firsts = slice_set h.firsts v n }) vs))
+    and_then (take (λ w. unless_named h.firsts (variable_of w)) ws) (λ v us.
+    and_then (take_value us) (λ n vs. took (record h { firsts = slice_set h.firsts v (Some n) }) vs))
 
 -- what a line adds to the header, and whether it is the line `program`
 abbrev pub more_header : Took Header → Took (Bool × Header)
@@ -75,7 +74,7 @@ read_header_line h at bs = outcome (take_header_line h (words_on at [] bs))
 -- a header and the program's text, once that is reached; what is not said is 0
 abbrev pub finished : Header → ℕ → List ℕ → Plan
 finished h at program =
-    record { kept = unwrap_or h.kept 0; inputs = unwrap_or h.inputs (replicate 64 0); firsts = h.firsts; at = at; program = program }
+    record { kept = unwrap_or h.kept 0; inputs = unwrap_or h.inputs (replicate 64 0); firsts = map (λ v. unwrap_or v 0) h.firsts; at = at; program = program }
 
 -- the lines of the text bs that are still to come, after what the header said before; without a line `program` the end of the text does not fit
 unfoldable pub read_header : List ℕ → Header → Lines → Result Plan ℕ

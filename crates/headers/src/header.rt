@@ -1,11 +1,11 @@
 //! Projects: a header, and then the text of the program.
-ghost use Rattle.std.specs.Prelude.{◌≡◌, ◌+◌, ◌^◌, ◌<◌, Bool, false, [], length, replicate, None, nat_le};
+ghost use Rattle.std.specs.Prelude.{◌≡◌, Bool, false, [], length, replicate, None, nat_le};
 ghost use Rattle.base.specs.Refusals.{unless, Checked};
 ghost use Rattle.headers.specs.Header.{plan, take_kept, take_marks, take_outside, unless_named, take_first, take_entry, read_header_line, finished, read_project};
 ghost use Rattle.lines.specs.Reading.{took, left, variable_of, Answers, Reads};
 
-use base::Refusal;
-use lines::line::Line;
+use base::{Refusal, VARIABLES};
+use lines::line::{Line, Lines, Word};
 use lines::words::{ReadError, variable};
 
 /// What a project's text says.
@@ -14,20 +14,19 @@ pub struct Project<'a> {
     /// How many of the first variables outlast a power cut, as it is written.
     pub kept: u64,
     /// A 1 for each variable that comes from outside.
-    pub inputs: [u8; 64],
+    pub inputs: [u8; VARIABLES],
     /// What each variable is at first.
-    pub firsts: [u16; 64],
-    /// Where the program's text begins.
-    pub at: usize,
-    pub program: &'a str,
+    pub firsts: [u16; VARIABLES],
+    /// The program's text, and where it begins.
+    pub program: Line<'a>,
 }
 
 impl Project<'_> {
-    /// No more than 64 variables can be kept.
+    /// No more variables can be kept than there are.
     pub fn check_kept(&self) -> Result<(), Refusal>
         ensures { Checked result (unless (nat_le self.now.kept 64) 5 0 None) }
     {
-        if self.kept > 64 {
+        if self.kept > VARIABLES as u64 {
             Err(Refusal::Length(0))
         } else {
             Ok(())
@@ -39,58 +38,51 @@ impl Project<'_> {
 #[derive(Clone, Copy)]
 pub struct Header {
     kept: Option<u64>,
-    inputs: Option<[u8; 64]>,
-    /// The variables of which it was said what they are at first.
-    named: [bool; 64],
-    firsts: [u16; 64],
+    inputs: Option<[u8; VARIABLES]>,
+    /// What each variable is at first, if that was said.
+    firsts: [Option<u16>; VARIABLES],
 }
 
 impl Header {
-    /// `kept` was read at `at`: a number follows.
-    fn read_kept(&mut self, line: &mut Line<'_>, at: usize) -> Result<(), ReadError>
-        ensures { Answers ⊥ result (λ _. took self.new (left line.new)) (take_kept self.old at (left line.old)) }
+    /// The word `kept` was read: a number follows.
+    fn read_kept(&mut self, line: &mut Line<'_>, word: Word<'_>) -> Result<(), ReadError>
+        ensures { Answers ⊥ result (λ _. took self.new (left line.new)) (take_kept self.old word.entry.at (left line.old)) }
     {
         if self.kept.is_some() {
-            return Err(ReadError::At(at));
+            return Err(word.misfit());
         }
-        let count = line.number()?;
-        self.kept = Some(count);
+        self.kept = Some(line.number()?);
         Ok(())
     }
 
-    /// `outside` was read at `at`: variables follow.
-    fn read_outside(&mut self, line: &mut Line<'_>, at: usize) -> Result<(), ReadError>
-        ensures { Answers ⊥ result (λ _. took self.new (left line.new)) (take_outside self.old at (left line.old)) }
+    // Written out beside `read_kept`: one function of the field and of what reads it would be longer than both.
+    /// The word `outside` was read: variables follow.
+    fn read_outside(&mut self, line: &mut Line<'_>, word: Word<'_>) -> Result<(), ReadError>
+        ensures { Answers ⊥ result (λ _. took self.new (left line.new)) (take_outside self.old word.entry.at (left line.old)) }
     {
         if self.inputs.is_some() {
-            return Err(ReadError::At(at));
+            return Err(word.misfit());
         }
-        let marks = read_marks(line)?;
-        self.inputs = Some(marks);
+        self.inputs = Some(read_marks(line)?);
         Ok(())
     }
 
     /// A variable of which it was not said yet what it is at first.
     fn unnamed(&self, word: &str) -> Option<u8>
-        ensures { result ≡ unless_named self.now.named (variable_of word.now) }
+        ensures { result ≡ unless_named self.now.firsts (variable_of word.now) }
     {
-        match variable(word) {
-            Some(v) if !self.named[v as usize] => Some(v),
-            _ => None,
-        }
+        let variable = variable(word)?;
+        let first = self.firsts[usize::from(variable)];
+        first.is_none().then_some(variable)
     }
 
-    /// `first` was read: a variable and a value follow.
+    /// The word `first` was read: a variable and a value follow.
     fn read_first(&mut self, line: &mut Line<'_>) -> Result<(), ReadError>
         ensures { Answers ⊥ result (λ _. took self.new (left line.new)) (take_first self.old (left line.old)) }
     {
         let word = line.word()?;
-        let Some(variable) = self.unnamed(word.text) else {
-            return Err(ReadError::At(word.at));
-        };
-        let value = line.value()?;
-        self.named[variable as usize] = true;
-        self.firsts[variable as usize] = value;
+        let variable = self.unnamed(word.text).ok_or(word.misfit())?;
+        self.firsts[usize::from(variable)] = Some(line.value()?);
         Ok(())
     }
 
@@ -100,21 +92,20 @@ impl Header {
     {
         let word = line.word()?;
         match word.text {
-            "kept" => self.read_kept(line, word.at)?,
-            "outside" => self.read_outside(line, word.at)?,
+            "kept" => self.read_kept(line, word)?,
+            "outside" => self.read_outside(line, word)?,
             "first" => self.read_first(line)?,
             "program" => return Ok(true),
-            _ => return Err(ReadError::At(word.at)),
+            _ => return Err(word.misfit()),
         }
         Ok(false)
     }
 
-    /// A line that begins at `at`; `true` if it is the line `program`.
-    fn read_line(&mut self, text: &str, at: usize) -> Result<bool, ReadError>
-        requires fits { at + length text.now < 2 ^ 64 }
-        ensures { Reads ⊥ result (λ b. (b, self.new)) (read_header_line self.old at text.now) }
+    /// A whole line, which may be blank; `true` if it is the line `program`.
+    #[tactic(auto, unfolding(lines::specs::Reading::left, crate::specs::Header::read_header_line))]
+    fn read_line(&mut self, mut line: Line<'_>) -> Result<bool, ReadError>
+        ensures { Reads ⊥ result (λ b. (b, self.new)) (read_header_line self.old line.entry.at line.entry.text.now) }
     {
-        let mut line = Line { at, text };
         if line.at_end() {
             return Ok(false);
         }
@@ -124,36 +115,26 @@ impl Header {
     }
 
     /// The project, once the program's text is reached; what is not said is 0.
-    fn finish(self, program: &str, at: usize) -> Project<'_>
-        ensures { plan result ≡ finished self at program.now }
+    fn finish(self, program: Line<'_>) -> Project<'_>
+        ensures { plan result ≡ finished self program.entry.at program.entry.text.now }
     {
-        let kept = match self.kept {
-            Some(count) => count,
-            None => 0,
-        };
-        let inputs = match self.inputs {
-            Some(marks) => marks,
-            None => [0; 64],
-        };
-        let firsts = self.firsts;
         Project {
-            kept,
-            inputs,
-            firsts,
-            at,
+            kept: self.kept.unwrap_or(0),
+            inputs: self.inputs.unwrap_or([0; VARIABLES]),
+            firsts: self.firsts.map(|value| value.unwrap_or(0)),
             program,
         }
     }
 }
 
 /// A 1 for each variable that is named up to the end of the line.
-fn read_marks(line: &mut Line<'_>) -> Result<[u8; 64], ReadError>
+fn read_marks(line: &mut Line<'_>) -> Result<[u8; VARIABLES], ReadError>
     ensures { Answers ⊥ result (λ m. took m (left line.new)) (take_marks (replicate 64 0) (left line.old)) }
 {
-    let mut marks = [0; 64];
+    let mut marks = [0; VARIABLES];
     while !line.at_end() {
         let variable = line.variable()?;
-        marks[variable as usize] = 1;
+        marks[usize::from(variable)] = 1;
     }
     Ok(marks)
 }
@@ -165,21 +146,17 @@ pub fn read_project(text: &str) -> Result<Project<'_>, ReadError>
     let mut header = Header {
         kept: None,
         inputs: None,
-        named: [false; 64],
-        firsts: [0; 64],
+        firsts: [None; VARIABLES],
     };
-    let mut rest = text;
-    let mut here = 0;
-    while let Some((line, after)) = rest.split_once('\n') {
-        let program = header.read_line(line, here)?;
-        here += line.len() + 1;
-        rest = after;
-        if program {
-            return Ok(header.finish(rest, here));
+    let mut lines = Lines::new(text);
+    let end = Line {
+        at: text.len(),
+        text: "",
+    };
+    while let Some(line) = lines.next() {
+        if header.read_line(line)? {
+            return Ok(header.finish(lines.rest.unwrap_or(end)));
         }
     }
-    if header.read_line(rest, here)? {
-        return Ok(header.finish("", text.len()));
-    }
-    Err(ReadError::At(text.len()))
+    Err(ReadError::At(end.at))
 }

@@ -1,8 +1,8 @@
 -- A line cut into words.
-use Rattle.std.proofs.Common.{◌≡◌, ℕ, zero, suc, ◌+◌, ◌<◌, ◌≤◌, Bool, true, false, cond, eqb, ◌⊎◌, List, [], ◌∷◌, ◌++◌, length, get_or, take, drop, sym, refl, ap, ◌∙◌, subst, ⊎_elim, append_assoc, append-nil, arith}
+use Rattle.std.proofs.Common.{◌≡◌, ℕ, zero, suc, ◌+◌, ◌-◌, ◌<◌, ◌≤◌, Bool, true, false, cond, eqb, ◌⊎◌, List, [], ◌∷◌, ◌++◌, length, get_or, take, drop, Some, None, Option, sym, refl, ap, ◌∙◌, subst, ⊎_elim, append_assoc, append-nil, arith}
 use lib.Utf8.{scalar, encode, low_scalar}
 use Rattle.std.specs.Char.{char_set_contains}
-use Rattle.std.specs.Str.Pattern.{HasPassingCharAt}
+use Rattle.std.specs.Str.Pattern.{HasPassingCharAt, FindsPrefixBy, CutsPrefixes, IsFullyTrimmed}
 use Rattle.std.specs.Str.{NoCharPasses}
 use Rattle.std.proofs.lemmas.Str.Pattern.{drop_at_char}
 use Rattle.std.proofs.lemmas.Bool.{cases_lt, cases_eq, ne_eqb, eq-eqb, both_ways}
@@ -159,6 +159,30 @@ no_blank_first (b ∷ bs) h =
     (λ (s : b < 128). h b bs (low_scalar b (omega arith)) (ap (λ l. l ++ bs) (sym (encode_ascii b s))))
     (λ (s : 128 ≤ b). large_no_blank b s)
     (cases_lt b 128)
+
+-- what is answered to a search for a blank at the front of a text
+abbrev pub BlankPrefix : List ℕ → Option ℕ → Type 0
+BlankPrefix bs r = (t : ℕ → Bool) → ((c : ℕ) → char_set_contains (32 ∷ 9 ∷ 13 ∷ []) c ≡ t c) → FindsPrefixBy t bs r
+
+passed : (bs : List ℕ) (n : ℕ) → BlankPrefix bs (Some n) → (b : ℕ) × (blank b ≡ true) × (bs ≡ b ∷ drop n bs)
+passed bs n h = such_byte blank blank_ascii bs 0 n (h blank blank_is)
+
+-- blanks that are trimmed off the front of a line
+pub trimmed : (at : ℕ) (bs rest ns : List ℕ) → CutsPrefixes BlankPrefix bs ns rest → (length rest ≤ length bs) × (words_on (at + (length bs - length rest)) [] rest ≡ words_on at [] bs)
+trimmed at bs rest [] e =
+    (omega (arith, ap length e), ap (λ l. words_on (at + (length bs - length l)) [] l) e ∙ ap (λ n. words_on n [] bs) (omega arith))
+trimmed at bs rest (n ∷ ns) h =
+    let b = passed h.0 n h.2 in
+    let e : h.0 ≡ b.0 ∷ rest = b.2 ∙ ap (λ l. b.0 ∷ l) (sym h.3) in
+    let before = trimmed at bs h.0 ns h.1 in
+    let next : at + (length bs - length rest) ≡ at + (length bs - length h.0) + 1 = omega (arith, before.0, ap length e) in
+    (omega (arith, before.0, ap length e), ap (λ m. words_on m [] rest) next ∙ sym (first_blank (at + (length bs - length h.0)) b.0 h.0 rest e b.1) ∙ before.1)
+
+pub trimmed_first : (rest : List ℕ) → IsFullyTrimmed BlankPrefix rest → blank (get_or rest 0 0) ≡ false
+trimmed_first rest (None, h, e) = no_blank_first rest (h blank blank_is)
+trimmed_first rest (Some n, h, e) =
+    let b = passed rest n h in
+    absurd (omega (arith, ap length (b.2 ∙ ap (λ m. b.0 ∷ drop m rest) e)))
 
 -- a line that begins with no blank: whether it has words, and where the first stands
 module _ (at : ℕ) (bs : List ℕ) (first : blank (get_or bs 0 0) ≡ false) where

@@ -3,3 +3,4 @@ pub mod Names
 pub mod LineCuts
 pub mod Errors
 pub mod Counts
+pub mod Left

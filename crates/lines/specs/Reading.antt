@@ -60,6 +60,10 @@ read_as p (Some x) ws = took x ws
 abbrev pub take : {X : Type 0} → (List ℕ → Option X) → Words → Took X
 take f ws = and_then (take_word ws) (λ w us. read_as w.0 (f w.1) us)
 
+-- wherever R says what is made of a word, it is what f says
+abbrev pub Makes : {X : Type 0} → (List ℕ → Option X → Type 0) → (List ℕ → Option X) → Type 0
+Makes {X} R f = (w : List ℕ) (o : Option X) → R w o → o ≡ f w
+
 abbrev pub take_number : Words → Took ℕ
 take_number = take number_of
 

@@ -1,10 +1,12 @@
 //! A line read word by word: numbers, names of variables and keywords.
-ghost use Rattle.std.specs.Prelude.{◌≡◌, ℕ, ◌+◌, ◌<◌, false, [], ◌++◌, length, slice_index};
+ghost use Rattle.std.specs.Prelude.{◌≡◌, ℕ, List, Option, ◌+◌, ◌<◌, false, [], ◌++◌, length, slice_index};
 ghost use Rattle.lines.specs.Words.{blank, word as word_at, words_on};
-ghost use Rattle.lines.specs.Reading.{took, number_of, name_of, variable_of, value_of, left, ended, first_place, take_word, take_number, take_name, take_variable, take_value, take_keyword, take_end, Answers};
+ghost use Rattle.lines.specs.Reading.{took, number_of, name_of, variable_of, value_of, left, ended, first_place, take_word, take, take_number, take_name, take_variable, take_value, take_keyword, take_end, Makes, Answers};
+ghost use Rattle.std.specs.Fn.{FnReturnsAt};
 ghost use Rattle.lines.specs.declared.words.ReadError.TheVariants.{Memory};
 
 use crate::line::{Line, Word};
+use base::VARIABLES;
 use std::alloc::{AllocError, AllocFailed};
 
 /// Why a text is not read: want of memory, or the place of the first word that does not fit.
@@ -35,42 +37,38 @@ pub fn number(word: &str) -> Option<u64>
     ensures { result ≡ number_of word.now }
 {
     if word.starts_with('+') {
-        return None;
+        None
+    } else {
+        word.parse().ok()
     }
-    word.parse::<u64>().ok()
 }
 
 /// The number of a name such as `v5`: no zero leads it.
 fn name(word: &str) -> Option<u64>
     ensures { result ≡ name_of word.now }
 {
-    let Some(digits) = word.strip_prefix('v') else {
-        return None;
-    };
+    let digits = word.strip_prefix('v')?;
     if digits.len() > 1 && digits.starts_with('0') {
-        return None;
+        None
+    } else {
+        number(digits)
     }
-    number(digits)
 }
 
 /// The index of one of the 64 variables.
 pub fn variable(word: &str) -> Option<u8>
     ensures { result ≡ variable_of word.now }
 {
-    match name(word) {
-        Some(n) if n < 64 => Some(n as u8),
-        _ => None,
-    }
+    u8::try_from(name(word)?)
+        .ok()
+        .filter(|v| usize::from(*v) < VARIABLES)
 }
 
 /// A number up to 65,535.
 fn value(word: &str) -> Option<u16>
     ensures { result ≡ value_of word.now }
 {
-    match number(word) {
-        Some(n) if n < 65536 => Some(n as u16),
-        _ => None,
-    }
+    u16::try_from(number(word)?).ok()
 }
 
 /// The first word of a text that begins with no blank, and what follows it; a colon is a word by itself.
@@ -92,13 +90,8 @@ impl<'a> Line<'a> {
         ensures same { left self.new ≡ left self.old }
         ensures first { blank (slice_index self.new.text.now 0) ≡ false }
     {
-        let mut at = self.at;
-        let mut text = self.text;
-        while let Some(after) = text.strip_prefix([' ', '\t', '\r']) {
-            at += 1;
-            text = after;
-        }
-        self.at = at;
+        let text = self.text.trim_start_matches([' ', '\t', '\r']);
+        self.at += self.text.len() - text.len();
         self.text = text;
     }
 
@@ -127,48 +120,41 @@ impl<'a> Line<'a> {
         Ok(Word { at, text })
     }
 
+    /// The next word, as `read` reads it.
+    fn read<T: Drop, F: Fn(&str) -> Option<T>>(&mut self, read: F) -> Result<T, ReadError>
+        requires { F.IsAlwaysCallable read }
+        ensures { (f : List ℕ → Option T) → Makes (FnReturnsAt F.Fn read) f → Answers ⊥ result (λ n. took n (left self.new)) (take f (left self.old)) }
+    {
+        let word = self.word()?;
+        read(word.text).ok_or(word.misfit())
+    }
+
     /// A number up to 2^64 - 1.
     pub fn number(&mut self) -> Result<u64, ReadError>
         ensures { Answers ⊥ result (λ n. took n (left self.new)) (take_number (left self.old)) }
     {
-        let word = self.word()?;
-        match number(word.text) {
-            Some(n) => Ok(n),
-            None => Err(ReadError::At(word.at)),
-        }
+        self.read(number)
     }
 
     /// A name with any number.
     pub fn name(&mut self) -> Result<u64, ReadError>
         ensures { Answers ⊥ result (λ n. took n (left self.new)) (take_name (left self.old)) }
     {
-        let word = self.word()?;
-        match name(word.text) {
-            Some(n) => Ok(n),
-            None => Err(ReadError::At(word.at)),
-        }
+        self.read(name)
     }
 
     /// The name of one of the 64 variables.
     pub fn variable(&mut self) -> Result<u8, ReadError>
         ensures { Answers ⊥ result (λ n. took n (left self.new)) (take_variable (left self.old)) }
     {
-        let word = self.word()?;
-        match variable(word.text) {
-            Some(n) => Ok(n),
-            None => Err(ReadError::At(word.at)),
-        }
+        self.read(variable)
     }
 
     /// A number up to 65,535.
     pub fn value(&mut self) -> Result<u16, ReadError>
         ensures { Answers ⊥ result (λ n. took n (left self.new)) (take_value (left self.old)) }
     {
-        let word = self.word()?;
-        match value(word.text) {
-            Some(n) => Ok(n),
-            None => Err(ReadError::At(word.at)),
-        }
+        self.read(value)
     }
 
     /// This word and no other.
@@ -179,7 +165,7 @@ impl<'a> Line<'a> {
         if word.text == keyword {
             Ok(())
         } else {
-            Err(ReadError::At(word.at))
+            Err(word.misfit())
         }
     }
 

@@ -1,28 +1,30 @@
 -- A script read line by line.
-use Rattle.std.proofs.Common.{◌≡◌, ℕ, ◌+◌, List, [], ◌∷◌, ◌++◌, length, Ok, Err, Result, ap, ◌∙◌, arith}
-use Rattle.lines.specs.Words.{lines_on, Lines}
-use Rattle.lines.specs.Reading.{and_ok}
-use Rattle.scripts.specs.Script.{Request, read_line, read_lines}
-use Rattle.lines.proofs.LineCuts.{Lacks, first_line, last_line}
+use Rattle.std.proofs.Common.{◌≡◌, ℕ, List, [], ◌++◌, Some, None, Ok, Err, Option, Result, sym, refl, ap, ◌∙◌}
+use Rattle.std.proofs.lemmas.Option.{none-some}
+use Rattle.lines.specs.declared.line.Line.{Line}
+use Rattle.lines.specs.Lines.{lines_of, AllLeft, Gives}
+use Rattle.scripts.specs.Script.{Request, read_line, read_lines, read_script}
 
--- what one line adds, and what the lines after it add
-goes_on : (acc next : List Request) (t : Result (List Request) ℕ) (ls : Lines) → and_ok t (λ new. Ok (acc ++ new)) ≡ Ok next → and_ok t (λ new. read_lines (acc ++ new) ls) ≡ read_lines next ls
-goes_on acc next (Ok new) ls e = let z : acc ++ new ≡ next = cc in ap (λ l. read_lines l ls) z
-goes_on acc next (Err p) ls e = absurd (let z : ◌≡◌ {A = ℕ} 0 1 = cc in omega arith)
+-- what was read, and what the lines that are left add to it
+abbrev pub read_on : List Request → Option Line → Result (List Request) ℕ
+read_on acc None = Ok acc
+read_on acc (Some left) = read_lines acc (lines_of left)
 
-stops : (acc : List Request) (p : ℕ) (t : Result (List Request) ℕ) (ls : Lines) → and_ok {Y = List Request} t (λ new. Ok (acc ++ new)) ≡ Err p → and_ok t (λ new. read_lines (acc ++ new) ls) ≡ Err p
-stops acc p (Ok new) ls e = absurd (let z : ◌≡◌ {A = ℕ} 0 1 = cc in omega arith)
-stops acc p (Err q) ls e = let z : q ≡ p = cc in ap Err z
+pub script_begins : (text : List ℕ) (left : Option Line) → AllLeft text left → read_script text ≡ read_on [] left
+unfolding read_script
+script_begins text None h = absurd h
+script_begins text (Some l) h = rw (h.0, h.1) refl
 
-module _ (here : ℕ) (bs : List ℕ) (acc : List Request) where
-  pub line_more : (xs ys : List ℕ) (next : List Request) → bs ≡ xs ++ (10 ∷ ys) → Lacks 10 xs → and_ok (read_line here xs) (λ new. Ok (acc ++ new)) ≡ Ok next → read_lines acc (lines_on here [] bs) ≡ read_lines next (lines_on (here + (length xs + 1)) [] ys)
+-- what a line adds
+module _ (acc : List Request) (l : Line) where
+  pub line_more : (new : List Request) (left more : Option Line) → Gives left (Some l) more → read_line l.at l.text.now ≡ Ok new → read_on acc left ≡ read_on (acc ++ new) more
   unfolding read_lines
-  line_more xs ys next e h told = ap (read_lines acc) (first_line here bs xs ys e h) ∙ goes_on acc next (read_line here xs) (lines_on (here + (length xs + 1)) [] ys) told
+  line_more new None more g told = absurd (none-some l (sym g.0))
+  line_more new (Some r) None g told = ap (read_lines acc) g.lines ∙ rw told
+  line_more new (Some r) (Some m) g told = ap (read_lines acc) g.lines ∙ rw told
 
-  pub line_wrong : (xs ys : List ℕ) (p : ℕ) → bs ≡ xs ++ (10 ∷ ys) → Lacks 10 xs → and_ok {Y = List Request} (read_line here xs) (λ new. Ok (acc ++ new)) ≡ Err p → read_lines acc (lines_on here [] bs) ≡ Err p
+  pub line_wrong : (p : ℕ) (left more : Option Line) → Gives left (Some l) more → read_line l.at l.text.now ≡ Err p → read_on acc left ≡ Err p
   unfolding read_lines
-  line_wrong xs ys p e h told = ap (read_lines acc) (first_line here bs xs ys e h) ∙ stops acc p (read_line here xs) (lines_on (here + (length xs + 1)) [] ys) told
-
-  pub line_last : (r : Result (List Request) ℕ) → Lacks 10 bs → and_ok (read_line here bs) (λ new. Ok (acc ++ new)) ≡ r → read_lines acc (lines_on here [] bs) ≡ r
-  unfolding read_lines
-  line_last r h told = ap (read_lines acc) (last_line here bs h) ∙ told
+  line_wrong p None more g told = absurd (none-some l (sym g.0))
+  line_wrong p (Some r) None g told = ap (read_lines acc) g.lines ∙ rw told
+  line_wrong p (Some r) (Some m) g told = ap (read_lines acc) g.lines ∙ rw told

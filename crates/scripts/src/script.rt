@@ -4,7 +4,7 @@ ghost use Rattle.lines.specs.Reading.{took, left, Answers, Reads, and_ok};
 ghost use Rattle.scripts.specs.Script.{request, take_pairs, take_inputs, take_scan, take_cut, take_force, take_free, take_request, read_line, read_script};
 ghost use Rattle.std.specs.Option.{option_to_list};
 
-use lines::line::Line;
+use lines::line::{Line, Lines};
 use lines::words::ReadError;
 use std::alloc::Global;
 
@@ -38,108 +38,110 @@ pub enum Event {
     },
 }
 
-/// Variables with values up to the end of the line.
-fn read_pairs(heap: Global, line: &mut Line<'_>) -> Result<Vec<Input>, ReadError>
-    ensures { Answers (Unit {0}) result (λ v. took v.items (left line.new)) (take_pairs [] (left line.old)) }
-{
-    let mut inputs = Vec::new(heap);
-    while !line.at_end() {
-        let variable = line.variable()?;
-        let value = line.value()?;
-        inputs.push(Input { variable, value })?;
+/// A line of a script as it is read, and the heap for the inputs that it names.
+#[derive(Drop)]
+struct EventLine<'a> {
+    heap: Global,
+    words: Line<'a>,
+}
+
+impl EventLine<'_> {
+    /// Variables with values up to the end of the line.
+    fn read_pairs(&mut self) -> Result<Vec<Input>, ReadError>
+        ensures { Answers (Unit {0}) result (λ v. took v.items (left self.new.words)) (take_pairs [] (left self.old.words)) }
+    {
+        let mut inputs = Vec::new(self.heap);
+        while !self.words.at_end() {
+            let variable = self.words.variable()?;
+            let value = self.words.value()?;
+            inputs.push(Input { variable, value })?;
+        }
+        Ok(inputs)
     }
-    Ok(inputs)
-}
 
-/// Inputs after a colon, which may be left out where there are none.
-fn read_inputs(heap: Global, line: &mut Line<'_>) -> Result<Vec<Input>, ReadError>
-    ensures { Answers (Unit {0}) result (λ v. took v.items (left line.new)) (take_inputs (left line.old)) }
-{
-    if line.at_end() {
-        return Ok(Vec::new(heap));
+    /// Inputs after a colon, which may be left out where there are none.
+    fn read_inputs(&mut self) -> Result<Vec<Input>, ReadError>
+        ensures { Answers (Unit {0}) result (λ v. took v.items (left self.new.words)) (take_inputs (left self.old.words)) }
+    {
+        if self.words.at_end() {
+            return Ok(Vec::new(self.heap));
+        }
+        self.words.keyword(":")?;
+        self.read_pairs()
     }
-    line.keyword(":")?;
-    read_pairs(heap, line)
-}
 
-fn read_scan(heap: Global, line: &mut Line<'_>) -> Result<Event, ReadError>
-    ensures { Answers (Unit {0}) result (λ e. took (request e) (left line.new)) (take_scan (left line.old)) }
-{
-    let elapsed = line.number()?;
-    let inputs = read_inputs(heap, line)?;
-    Ok(Event::Scan { elapsed, inputs })
-}
+    /// The word `scan` was read.
+    fn read_scan(&mut self) -> Result<Event, ReadError>
+        ensures { Answers (Unit {0}) result (λ e. took (request e) (left self.new.words)) (take_scan (left self.old.words)) }
+    {
+        let elapsed = self.words.number()?;
+        let inputs = self.read_inputs()?;
+        Ok(Event::Scan { elapsed, inputs })
+    }
 
-fn read_cut(heap: Global, line: &mut Line<'_>) -> Result<Event, ReadError>
-    ensures { Answers (Unit {0}) result (λ e. took (request e) (left line.new)) (take_cut (left line.old)) }
-{
-    let elapsed = line.number()?;
-    line.keyword("at")?;
-    let at = line.number()?;
-    line.keyword("junk")?;
-    let junk = line.number()?;
-    let inputs = read_inputs(heap, line)?;
-    Ok(Event::Cut {
-        elapsed,
-        at,
-        junk,
-        inputs,
-    })
-}
+    /// The word `cut` was read.
+    fn read_cut(&mut self) -> Result<Event, ReadError>
+        ensures { Answers (Unit {0}) result (λ e. took (request e) (left self.new.words)) (take_cut (left self.old.words)) }
+    {
+        let elapsed = self.words.number()?;
+        self.words.keyword("at")?;
+        let at = self.words.number()?;
+        self.words.keyword("junk")?;
+        let junk = self.words.number()?;
+        let inputs = self.read_inputs()?;
+        Ok(Event::Cut {
+            elapsed,
+            at,
+            junk,
+            inputs,
+        })
+    }
 
-fn read_force(line: &mut Line<'_>) -> Result<Event, ReadError>
-    ensures { Answers ⊥ result (λ e. took (request e) (left line.new)) (take_force (left line.old)) }
-{
-    let point = line.name()?;
-    let number = line.number()?;
-    Ok(Event::Force { point, number })
-}
+    /// The word `force` was read.
+    fn read_force(&mut self) -> Result<Event, ReadError>
+        ensures { Answers ⊥ result (λ e. took (request e) (left self.new.words)) (take_force (left self.old.words)) }
+    {
+        let point = self.words.name()?;
+        let number = self.words.number()?;
+        Ok(Event::Force { point, number })
+    }
 
-fn read_free(line: &mut Line<'_>) -> Result<Event, ReadError>
-    ensures { Answers ⊥ result (λ e. took (request e) (left line.new)) (take_free (left line.old)) }
-{
-    let point = line.name()?;
-    Ok(Event::Free { point })
-}
+    /// The word `free` was read.
+    fn read_free(&mut self) -> Result<Event, ReadError>
+        ensures { Answers ⊥ result (λ e. took (request e) (left self.new.words)) (take_free (left self.old.words)) }
+    {
+        let point = self.words.name()?;
+        Ok(Event::Free { point })
+    }
 
-/// The event that a line begins with.
-fn read_event(heap: Global, line: &mut Line<'_>) -> Result<Event, ReadError>
-    ensures { Answers (Unit {0}) result (λ e. took (request e) (left line.new)) (take_request (left line.old)) }
-{
-    let word = line.word()?;
-    match word.text {
-        "start" => Ok(Event::Start),
-        "scan" => read_scan(heap, line),
-        "cut" => read_cut(heap, line),
-        "force" => read_force(line),
-        "free" => read_free(line),
-        _ => Err(ReadError::At(word.at)),
+    /// The event that the line begins with.
+    fn read_event(&mut self) -> Result<Event, ReadError>
+        ensures { Answers (Unit {0}) result (λ e. took (request e) (left self.new.words)) (take_request (left self.old.words)) }
+    {
+        let word = self.words.word()?;
+        match word.text {
+            "start" => Ok(Event::Start),
+            "scan" => self.read_scan(),
+            "cut" => self.read_cut(),
+            "force" => self.read_force(),
+            "free" => self.read_free(),
+            _ => Err(word.misfit()),
+        }
     }
 }
 
-/// The event of a line that begins at `at`; none if the line is blank.
-fn event_of_line(heap: Global, text: &str, at: usize) -> Result<Option<Event>, ReadError>
-    requires fits { at + length text.now < 2 ^ 64 }
-    ensures { Reads (Unit {0}) result (λ o. map request (option_to_list o)) (read_line at text.now) }
+/// The event of a whole line; none if the line is blank.
+#[tactic(auto, unfolding(lines::specs::Reading::left, crate::specs::Script::read_line))]
+fn event_of_line(heap: Global, line: Line<'_>) -> Result<Option<Event>, ReadError>
+    ensures { Reads (Unit {0}) result (λ o. map request (option_to_list o)) (read_line line.entry.at line.entry.text.now) }
 {
-    let mut line = Line { at, text };
-    if line.at_end() {
+    let mut line = EventLine { heap, words: line };
+    if line.words.at_end() {
         return Ok(None);
     }
-    let event = read_event(heap, &mut line)?;
-    line.end()?;
+    let event = line.read_event()?;
+    line.words.end()?;
     Ok(Some(event))
-}
-
-/// Adds the event of a line.
-fn push_line(events: &mut Vec<Event>, heap: Global, text: &str, at: usize) -> Result<(), ReadError>
-    requires fits { at + length text.now < 2 ^ 64 }
-    ensures { Reads (Unit {0}) result (λ _. map request events.new.items) (and_ok (read_line at text.now) (λ new. Ok (map request events.old.items ++ new))) }
-{
-    if let Some(event) = event_of_line(heap, text, at)? {
-        events.push(event)?;
-    }
-    Ok(())
 }
 
 /// The events of a script. One that can't be read is refused at its first word that does not fit.
@@ -147,13 +149,10 @@ pub fn read_script(heap: Global, text: &str) -> Result<Vec<Event>, ReadError>
     ensures { Reads (Unit {0}) result (λ v. map request v.items) (read_script text.now) }
 {
     let mut events = Vec::new(heap);
-    let mut rest = text;
-    let mut here = 0;
-    while let Some((line, after)) = rest.split_once('\n') {
-        push_line(&mut events, heap, line, here)?;
-        here += line.len() + 1;
-        rest = after;
+    for line in Lines::new(text) {
+        if let Some(event) = event_of_line(heap, line)? {
+            events.push(event)?;
+        }
     }
-    push_line(&mut events, heap, rest, here)?;
     Ok(events)
 }

@@ -1,10 +1,9 @@
-use Rattle.std.proofs.Common.{sym, ap, ◌∙◌, arith, length-set}
+use Rattle.std.proofs.Common.{sym, ap, ◌∙◌, length-set}
 use Rattle.std.proofs.lemmas.Result.{err_from_is_err_and}
 use Rattle.headers.specs.Header.{take_marks}
-use Rattle.lines.specs.Reading.{ended, variable_of}
+use Rattle.lines.specs.Reading.{ended}
 use Rattle.lines.proofs.Errors.{misses_on}
 use Rattle.headers.proofs.HeaderLines.{marks_all, marks_next, marks_wrong}
-use Rattle.lines.proofs.Counts.{word_count, take_falls}
 use Rattle.headers.proofs.header.read_marks.Goals as goal
 
 pub returns-in_err-variable : goal.returns-in_err-variable
@@ -17,13 +16,11 @@ returns-in_err-variable c =
 
 pub loop-line-preserved : goal.loop-line-preserved
 loop-line-preserved c =
-    let some = ap ended c.at_end.ensures.same ∙ sym c.at_end.ensures.value ∙ c.loop-line-test.true in (
+    let some = ap ended c.at_end.ensures.same ∙ sym c.at_end.ensures.value ∙ c.loop-line-test.true in
+    rw c.from.ensures (
       length-set c.loop-line.marks c.in_ok-variable.variable 1 ∙ c.loop-line.invariant.0,
       c.loop-line.invariant.1 ∙ ap (take_marks c.loop-line.marks) (sym c.at_end.ensures.same) ∙ marks_next _ _ _ _ some c.in_ok-variable.ensures,
     )
-
-pub loop-line-smaller : goal.loop-line-smaller
-loop-line-smaller c = omega (arith, ap word_count c.at_end.ensures.same, take_falls variable_of _ _ _ c.in_ok-variable.ensures)
 
 pub returns : goal.returns
 returns c =

@@ -8,8 +8,8 @@ pub returns-then-starts_with : goal.returns-then-starts_with
 returns-then-starts_with c =
     sym (plus_none _ ((starts_char 43 c.args.word.now _ c.starts_with.ensures.cases (omega arith) (omega arith)).0 c.if-starts_with.true))
 
-pub returns : goal.returns
-returns c =
+pub returns-else-starts_with : goal.returns-else-starts_with
+returns-else-starts_with c =
     c.ok.ensures.value
     ∙ number_from_parse c.args.word.now c.parse.result c.parse.ensures.value.0
     (λ e. both_ways _ c.if-starts_with.false ((starts_char 43 c.args.word.now _ c.starts_with.ensures.cases (omega arith) (omega arith)).1 e))

@@ -1,4 +1,4 @@
-use Rattle.std.proofs.Common.{length, sym, ap, ◌∙◌, arith, length-append}
+use Rattle.std.proofs.Common.{sym, ap, ◌∙◌, arith}
 use Rattle.std.proofs.lemmas.Bool.{eqb-true, eqb-false}
 use Rattle.lines.specs.Reading.{left, take_word}
 use Rattle.lines.proofs.Cuts.{begins_end}
@@ -9,12 +9,6 @@ unfolding left
 returns-then-is_empty c =
     let none = eqb-true _ _ (sym c.is_empty.ensures ∙ c.if-is_empty.true) in
     ap take_word (sym c.skip_blanks.ensures.same ∙ begins_end _ _ none)
-
-pub overflow_add-self : goal.overflow_add-self
-overflow_add-self c = omega (arith, c.skip_blanks.new.self.fits, simp length-append at (ap length c.cut_word.ensures.parts))
-
-pub invariant_of-self : goal.invariant_of-self
-invariant_of-self c = record { fits = omega (arith, c.skip_blanks.new.self.fits, simp length-append at (ap length c.cut_word.ensures.parts)) }
 
 pub returns : goal.returns
 unfolding left

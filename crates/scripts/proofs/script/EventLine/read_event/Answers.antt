@@ -1,6 +1,6 @@
 use Rattle.std.proofs.Common.{codes}
 use Rattle.lines.proofs.Errors.{differs}
-use Rattle.scripts.proofs.script.read_event.Goals as goal
+use Rattle.scripts.proofs.script.EventLine.read_event.Goals as goal
 
 pub returns-in_default : goal.returns-in_default
 returns-in_default c =
@@ -10,4 +10,4 @@ returns-in_default c =
     let e2 = differs w (codes "cut") c.in_default.not-cut in
     let e3 = differs w (codes "force") c.in_default.not-force in
     let e4 = differs w (codes "free") c.in_default.not-free in
-    rw (c.in_ok-word.ensures, e0, e1, e2, e3, e4)
+    rw (c.misfit.ensures, c.in_ok-word.ensures, e0, e1, e2, e3, e4)
