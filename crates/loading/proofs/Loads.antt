@@ -1,10 +1,11 @@
 -- What is known of a text once it was cut and compiled.
-use Rattle.std.proofs.Common.{◌≡◌, ℕ, ◌+◌, ◌-◌, ◌*◌, ◌/◌, ◌<◌, ◌≤◌, List, length, get_or, take, Ok, Err, vec_items, sym, refl, ap, ◌∙◌, subst, arith}
+use Rattle.std.proofs.Common.{◌≡◌, ℕ, ◌+◌, ◌*◌, ◌/◌, ◌<◌, ◌≤◌, List, length, get_or, take, Ok, Err, vec_items, Result, Vec, sym, refl, ap, ◌∙◌, subst, arith}
+use Rattle.std.specs.declared.alloc.Global.{Global}
 use Rattle.base.specs.declared.Refusal.{Refusal}
 use Rattle.base.specs.declared.Refusal.TheVariants.{Token as BadToken, Program as NoProgram, Limit, Room, Length, Off, Time, Stamp, Point}
 use Rattle.lexer.specs.declared.Token.{Token}
 use Rattle.lexer.specs.Pairs.{pairs, tokens_in}
-use Rattle.lexer.specs.Outcome.{Broken, Written, Refused}
+use Rattle.lexer.specs.Outcome.{Broken, Refused, Tokenized}
 use Rattle.lexer.proofs.PairLaws.{pairs_back, pairs_length, cuts_shaped, written_front}
 use Rattle.syntax.specs.Ast.{Stmt}
 use Rattle.syntax.specs.Grammar.{Reads}
@@ -12,13 +13,15 @@ use Rattle.syntax.specs.Theorems.{Placed}
 use Rattle.syntax.specs.Shape.{Fine, Misshapen}
 use Rattle.semantics.specs.Eval.{meaning}
 use Rattle.semantics.specs.Needs.{stmt_need, Fits}
-use Rattle.compiler.specs.Made.{Made, Refused as UnmadeSo, NeverShort}
+use Rattle.compiler.specs.Made.{Made, Makes, MakesRight, Refused as UnmadeSo, NeverShort}
 use Rattle.compiler.specs.Code.{code_in}
 use Rattle.compiler.specs.Right.{Right, Compiled}
 use Rattle.compiler.proofs.Within.{coded_within}
 use Rattle.headers.specs.Header.{Plan, read_project}
 use Rattle.loading.specs.declared.load.Loaded.{Loaded}
-use Rattle.loading.specs.Loading.{CutUp, Uncoded, ReadyWithinNeeds}
+use Rattle.loading.specs.declared.load.Failure.{Failure}
+use Rattle.loading.specs.declared.load.Failure.TheVariants.{Program}
+use Rattle.loading.specs.Loading.{CutUp, Uncoded, CodedFor, CodedWithinNeeds, ReadyWithinNeeds}
 
 -- a text that is refused, with a room of the right length, can't be cut
 pub uncut : (text room : List ℕ) (e : Refusal) → length room ≡ 8192 → Refused text room e → (p : ℕ) × (e ≡ BadToken p) × Broken text p
@@ -33,11 +36,11 @@ uncut text room Stamp l h = absurd h
 uncut text room (Point p) l h = absurd h
 
 -- the tokens that were written are those of the text
-pub cut_so : (text room room₁ : List ℕ) (n : ℕ) (xs : List ℕ) → Written text room room₁ n → n ≤ 4096 → xs ≡ take (2 * n - 0) room₁ →
+pub cut_so : (text room room₁ : List ℕ) (r : Result ℕ Refusal) (n : ℕ) (xs : List ℕ) → Tokenized text room r room₁ → r ≡ Ok n → xs ≡ take (2 * n) room₁ →
     (ts : List Token) × (xs ≡ pairs ts) × CutUp text ts
-cut_so text room room₁ n xs w few e =
-    let all : 2 * n - 0 ≡ 2 * n = omega arith in
-    (w.tokens, e ∙ ap (λ (k : ℕ). take k room₁) all ∙ written_front text room room₁ n w, record { cuts = w.cuts; few = omega (arith, w.count) })
+cut_so text room room₁ r n xs h is e =
+    let told = subst (λ (v : Result ℕ Refusal). Tokenized text room v room₁) is h in
+    (told.0.tokens, e ∙ written_front text room room₁ n told.0, record { cuts = told.0.cuts; few = omega (arith, told.1, told.0.count) })
 
 -- every pair of a text's tokens is one
 whole : (text : List ℕ) (ts : List Token) (i : ℕ) → CutUp text ts → ((j : ℕ) → get_or (pairs ts) j 0 < 65536) → 2 * i < length (pairs ts) → Fine (pairs ts) i
@@ -65,18 +68,31 @@ uncoded xs room Time small l h short text ts c q = absurd h
 uncoded xs room Stamp small l h short text ts c q = absurd h
 uncoded xs room (Point p) small l h short text ts c q = absurd h
 
+-- so it is answered
+pub uncoded_so : (xs room room' : List ℕ) (made : Result ℕ Refusal) (e : Refusal) (answer : Result (Vec ℕ Global) Failure) → ((j : ℕ) → get_or xs j 0 < 65536) → length room ≡ 16388 →
+    Makes xs room made room' → NeverShort xs made → made ≡ Err e → answer ≡ Err (Program e) → record { coded : CodedFor xs answer; within : CodedWithinNeeds xs answer }
+uncoded_so xs room room' made e answer small l h short is told =
+    let why = subst (λ (v : Result ℕ Refusal). Makes xs room v room') is h in
+    rw told (record { coded = uncoded xs room e small l why.0 (subst (NeverShort xs) is short); within = tt })
+
 -- what was made of a text's tokens
-pub coded : (xs room room' : List ℕ) (n : ℕ) (code : List ℕ) → Made xs room n room' → ((s : Stmt) → Reads (tokens_in xs) s → Compiled 64 (meaning s) (take (4 * n) room')) → code ≡ take (4 * n - 0) room' →
+coded : (xs room room' : List ℕ) (n : ℕ) (code : List ℕ) → Made xs room n room' → ((s : Stmt) → Reads (tokens_in xs) s → Compiled 64 (meaning s) (take (4 * n) room')) → code ≡ take (4 * n) room' →
     (ts : List Token) → xs ≡ pairs ts → (s : Stmt) × Reads ts s × Fits (stmt_need s) × Compiled 64 (meaning s) code × Right (meaning s) (stmt_need s) (code_in code)
-coded xs room room' n code m right e ts q =
-    let all : 4 * n - 0 ≡ 4 * n = omega arith in
-    let front : code ≡ take (4 * n) room' = e ∙ ap (λ (k : ℕ). take k room') all in (
-      m.program,
-      subst (λ (v : List Token). Reads v m.program) (ap tokens_in q ∙ pairs_back ts) m.reads,
-      m.coded.fits,
-      subst (λ (v : List ℕ). Compiled 64 (meaning m.program) v) (sym front) (right m.program m.reads),
-      subst (λ (v : List ℕ). Right (meaning m.program) (stmt_need m.program) (code_in v)) (sym front) (coded_within m.program room room' n m.coded),
-    )
+coded xs room room' n code m right front ts q = (
+  m.program,
+  subst (λ (v : List Token). Reads v m.program) (ap tokens_in q ∙ pairs_back ts) m.reads,
+  m.coded.fits,
+  subst (λ (v : List ℕ). Compiled 64 (meaning m.program) v) (sym front) (right m.program m.reads),
+  subst (λ (v : List ℕ). Right (meaning m.program) (stmt_need m.program) (code_in v)) (sym front) (coded_within m.program room room' n m.coded),
+)
+
+-- and so it is answered
+pub coded_so : (xs room room' : List ℕ) (made : Result ℕ Refusal) (n : ℕ) (v : Vec ℕ Global) → Makes xs room made room' → MakesRight xs made room' → made ≡ Ok n → vec_items v ≡ take (4 * n) room' →
+    record { coded : CodedFor xs (Ok v); within : CodedWithinNeeds xs (Ok v) }
+coded_so xs room room' made n v h right is front =
+    let m = subst (λ (r : Result ℕ Refusal). Makes xs room r room') is h in
+    let within = coded xs room room' n (vec_items v) m (subst (λ (r : Result ℕ Refusal). MakesRight xs r room') is right) front in
+    record { coded = λ ts q. let w = within ts q in (w.0, w.1, w.2, w.3); within = within }
 
 -- what is loaded is ready, within the needs of the program that its tokens are
 pub ready_within : (text : List ℕ) (l : Loaded) (h : Plan) (ts : List Token) → read_project text ≡ Ok h → CutUp h.program ts →

@@ -1,19 +1,18 @@
 //! A project's text made ready to run: what its header says, and the code of its program.
 ghost use Rattle.std.specs.Prelude.{◌≡◌};
 ghost use Rattle.loading.specs.Loading.{CutInto, CodedFor, CodedWithinNeeds, Loads, LoadsWithinNeeds};
+ghost use Rattle.loading.specs.Failures.{in_header, in_script};
+ghost use Rattle.loading.specs.declared.load.Failure.TheVariants.{Memory};
 
-use base::Refusal;
+use base::{Refusal, VARIABLES};
 use compiler::make;
 use headers::header::read_project;
-use lexer::tokenize;
+use lexer::{TOKEN_ROOM, tokenize};
 use lines::words::ReadError;
-use std::alloc::Global;
+use std::alloc::{AllocError, Global};
 
-/// How many numbers the tokens of a program take at most.
-const TOKEN_ROOM: usize = 8192;
-
-/// How many numbers the code of a program takes at most.
-const CODE_ROOM: usize = 16388;
+/// How many numbers the code of a program takes at most: four for each token, and four more.
+const CODE_ROOM: usize = 2 * TOKEN_ROOM + 4;
 
 /// Why texts are not taken: want of memory, or a refusal with the part of the text that its place counts in.
 #[derive(Debug, Drop)]
@@ -27,12 +26,44 @@ pub enum Failure {
     Script(Refusal),
 }
 
+impl From<AllocError> for Failure {
+    ghost from_gives = { λ _ failure. failure ≡ Memory };
+
+    fn from(_error: AllocError) -> Failure {
+        Failure::Memory
+    }
+}
+
+/// What a header that can't be read is refused for; a script is by `in_script`.
+impl From<ReadError> for Failure {
+    ghost from_gives = { λ error failure. failure ≡ in_header error };
+
+    fn from(error: ReadError) -> Failure {
+        match error {
+            ReadError::Memory => Failure::Memory,
+            ReadError::At(place) => Failure::Header(Refusal::Token(place as u64)),
+        }
+    }
+}
+
+impl Failure {
+    /// What a script that can't be read is refused for.
+    pub fn in_script(error: ReadError) -> Failure
+        ensures { result ≡ in_script error }
+    {
+        match error {
+            ReadError::Memory => Failure::Memory,
+            ReadError::At(place) => Failure::Script(Refusal::Token(place as u64)),
+        }
+    }
+}
+
 /// A project that is ready to run.
 #[derive(Drop)]
 pub struct Loaded {
     pub kept: u64,
-    pub inputs: [u8; 64],
-    pub firsts: [u16; 64],
+    pub inputs: [u8; VARIABLES],
+    pub firsts: [u16; VARIABLES],
     pub code: Vec<u16>,
 }
 
@@ -41,13 +72,8 @@ pub fn tokens_of(heap: Global, text: &str) -> Result<Vec<u16>, Failure>
     ensures { CutInto text.now result }
 {
     let mut room = [0; TOKEN_ROOM];
-    match tokenize(text, &mut room) {
-        Err(refusal) => Err(Failure::Program(refusal)),
-        Ok(count) => match Vec::from_slice(heap, &room[0..2 * count as usize]) {
-            Ok(tokens) => Ok(tokens),
-            Err(_) => Err(Failure::Memory),
-        },
-    }
+    let count = tokenize(text, &mut room).map_err(Failure::Program)?;
+    Ok(Vec::from_slice(heap, &room[..2 * count as usize])?)
 }
 
 /// The code of the program that tokens are.
@@ -56,13 +82,8 @@ pub fn code_of(heap: Global, tokens: &[u16]) -> Result<Vec<u16>, Failure>
     ensures within { CodedWithinNeeds tokens.now result }
 {
     let mut room = [0; CODE_ROOM];
-    match make(tokens, &mut room) {
-        Err(refusal) => Err(Failure::Program(refusal)),
-        Ok(count) => match Vec::from_slice(heap, &room[0..4 * count as usize]) {
-            Ok(code) => Ok(code),
-            Err(_) => Err(Failure::Memory),
-        },
-    }
+    let count = make(tokens, &mut room).map_err(Failure::Program)?;
+    Ok(Vec::from_slice(heap, &room[..4 * count as usize])?)
 }
 
 /// A project's text, read and compiled. The checks run in the order of the refusals' numbers.
@@ -70,16 +91,10 @@ pub fn load(heap: Global, text: &str) -> Result<Loaded, Failure>
     ensures loads { Loads text.now result }
     ensures within { LoadsWithinNeeds text.now result }
 {
-    let project = match read_project(text) {
-        Ok(project) => project,
-        Err(ReadError::At(place)) => return Err(Failure::Header(Refusal::Token(place as u64))),
-        Err(ReadError::Memory) => return Err(Failure::Memory),
-    };
+    let project = read_project(text)?;
     let tokens = tokens_of(heap, project.program)?;
     let code = code_of(heap, tokens.as_slice())?;
-    if let Err(refusal) = project.check_kept() {
-        return Err(Failure::Header(refusal));
-    }
+    project.check_kept().map_err(Failure::Header)?;
     Ok(Loaded {
         kept: project.kept,
         inputs: project.inputs,

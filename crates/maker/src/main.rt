@@ -1,35 +1,20 @@
 //! Prints the code of the project that the first argument names, and what it needs.
 #![tactic(auto)]
 
+use console::ProjectFile;
 use project::listing::listing;
-use project::message::message;
+use std::env;
 use std::process::ExitCode;
-use std::{env, fs};
 
 fn main(rt: HostRuntime) -> anyhow::Result<ExitCode> {
     let heap = rt.alloc();
-    let mut args = env::args(&rt)?;
-    let _program = args.next();
-    let Some(path) = args.next() else {
+    let Some(path) = env::args(&rt)?.nth(1) else {
         eprintln!(rt; "usage: maker PROJECT")?;
         return Ok(ExitCode::FAILURE);
     };
-    let project = match fs::read_to_string(&rt, path.as_str()) {
-        Ok(project) => project,
-        Err(error) => {
-            eprintln!(rt; "{path}: {error}")?;
-            return Ok(ExitCode::FAILURE);
-        }
+    let Some(project) = ProjectFile::open(&rt, path)? else {
+        return Ok(ExitCode::FAILURE);
     };
-    match listing(heap, project.as_str()) {
-        Ok(text) => {
-            print!(rt; "{text}")?;
-            Ok(ExitCode::SUCCESS)
-        }
-        Err(failure) => {
-            let line = message(heap, path.as_str(), project.as_str(), "", &failure)?;
-            eprintln!(rt; "{line}")?;
-            Ok(ExitCode::FAILURE)
-        }
-    }
+    let answer = listing(heap, project.text.as_str());
+    Ok(project.tell(&rt, heap, "", answer)?)
 }

@@ -6,7 +6,7 @@ use Rattle.std.proofs.lemmas.Bool.{ne_eqb}
 use Rattle.base.specs.declared.Refusal.{Refusal}
 use Rattle.base.specs.declared.Refusal.TheVariants.{Token as BadToken, Program as NoProgram, Limit, Room, Length, Off, Time, Stamp, Point}
 use Rattle.lexer.specs.declared.Token.{Token}
-use Rattle.lexer.specs.Outcome.{Written, Refused}
+use Rattle.lexer.specs.Outcome.{Written, Refused, Tokenized}
 use Rattle.lexer.proofs.Cutting.{one_way, refused_rightly_lem}
 use Rattle.loading.specs.Loading.{CutUp}
 use Rattle.loading.proofs.Loads.{uncut}
@@ -87,11 +87,13 @@ none text room e ts size why up =
     let broken = uncut text room e size why in
     refused_rightly_lem text broken.0 (length ts) broken.2 (record { tokens = ts; cuts = up.cuts; count = refl; few = up.few })
 
-pub nowhere_pointed : (r : Result (String Global) AllocError) (file text : List ℕ) (start : ℕ) (program : List ℕ) (i at : ℕ) (sentence room : List ℕ) (e : Refusal) → length room ≡ 8192 → Refused program room e →
+pub nowhere_pointed : (r : Result (String Global) AllocError) (file text : List ℕ) (start : ℕ) (program : List ℕ) (i at : ℕ) (sentence room room₁ : List ℕ) (cut : Result ℕ Refusal) → length room ≡ 8192 →
+    ((n : ℕ) → cut ≡ Ok n → ⊥) → Tokenized program room cut room₁ →
     IfOk r (λ s. string_bytes s ≡ message file text at (NoProgram i) sentence) → IfOk r (λ s. Mismatched file text start program i (string_bytes s))
-nowhere_pointed (Ok s) file text start program i at sentence room e size why is =
-    record { at = at; points = record { sentence = sentence; is = is }; stands = λ ts up. absurd (none program room e ts size why up) }
-nowhere_pointed (Err x) file text start program i at sentence room e size why is = tt
+nowhere_pointed (Ok s) file text start program i at sentence room room₁ (Ok n) size not why is = absurd (not n refl)
+nowhere_pointed (Ok s) file text start program i at sentence room room₁ (Err e) size not why is =
+    record { at = at; points = record { sentence = sentence; is = is }; stands = λ ts up. absurd (none program room e ts size why.0 up) }
+nowhere_pointed (Err x) file text start program i at sentence room room₁ cut size not why is = tt
 
 -- whatever is said of a program, it points somewhere
 program_points : (file text : List ℕ) (e : Refusal) (line : List ℕ) → ProgramSays file text e line → Points file text e line

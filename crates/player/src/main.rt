@@ -1,44 +1,23 @@
 //! Plays a script, read from standard input, through the project that the first argument names.
 #![tactic(auto)]
 
-use project::message::message;
+use console::ProjectFile;
 use project::play::play;
+use std::env;
 use std::io::Read;
 use std::process::ExitCode;
-use std::{env, fs};
 
 fn main(rt: HostRuntime) -> anyhow::Result<ExitCode> {
     let heap = rt.alloc();
-    let mut args = env::args(&rt)?;
-    let _program = args.next();
-    let Some(path) = args.next() else {
+    let Some(path) = env::args(&rt)?.nth(1) else {
         eprintln!(rt; "usage: player PROJECT < SCRIPT")?;
         return Ok(ExitCode::FAILURE);
     };
-    let project = match fs::read_to_string(&rt, path.as_str()) {
-        Ok(project) => project,
-        Err(error) => {
-            eprintln!(rt; "{path}: {error}")?;
-            return Ok(ExitCode::FAILURE);
-        }
+    let Some(project) = ProjectFile::open(&rt, path)? else {
+        return Ok(ExitCode::FAILURE);
     };
     let mut script = String::new(heap);
     rt.stdin().read_to_string(&mut script)?;
-    match play(heap, project.as_str(), script.as_str()) {
-        Ok(text) => {
-            print!(rt; "{text}")?;
-            Ok(ExitCode::SUCCESS)
-        }
-        Err(failure) => {
-            let line = message(
-                heap,
-                path.as_str(),
-                project.as_str(),
-                script.as_str(),
-                &failure,
-            )?;
-            eprintln!(rt; "{line}")?;
-            Ok(ExitCode::FAILURE)
-        }
-    }
+    let answer = play(heap, project.text.as_str(), script.as_str());
+    Ok(project.tell(&rt, heap, script.as_str(), answer)?)
 }

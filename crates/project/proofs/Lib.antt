@@ -6,5 +6,5 @@ pub mod Whys
 pub mod Scenes
 pub mod Steps
 pub mod Playing
-pub mod Arms
 pub mod Loads
+pub mod Moved

@@ -12,6 +12,8 @@ use Rattle.scripts.specs.declared.script.Event.{Event}
 use Rattle.scripts.specs.Script.{Request, request, read_script}
 use Rattle.loading.specs.declared.load.Failure.{Failure}
 use Rattle.loading.specs.declared.load.Failure.TheVariants.{Memory, Header, Program, Script}
+use Rattle.loading.specs.declared.load.Loaded.{Loaded}
+use Rattle.project.specs.declared.run.Parts.{Parts}
 pub use Rattle.loading.specs.Loading.{CutUp, ReadUp, Parsed, Taken, Passes, HeaderRefused, ProgramRefused, Declined, Ready, Loads, CutInto, Uncoded, CodedFor}
 use Rattle.project.specs.declared.run.RunError.{RunError}
 use Rattle.project.specs.declared.run.RunError.TheVariants.{Memory as NoMemory, Kept}
@@ -58,6 +60,13 @@ failure_of Kept = Header (Length 0)
 abbrev pub Plays : (project script : List ℕ) → Result (String Global) Failure → Type 0
 Plays project script (Ok text) = Played project script text
 Plays project script (Err f) = NotPlayed project script f
+
+-- a project that is ready, by its parts
+pub record PartsOf (l : Loaded) (parts : Parts) : Type 0 where
+  pub kept : parts.kept ≡ l.kept
+  pub inputs : parts.inputs.now ≡ l.inputs
+  pub firsts : parts.firsts.now ≡ l.firsts
+  pub code : parts.code.now ≡ vec_items l.code
 
 -- what reading a script answers
 abbrev pub EventsOf : (script : List ℕ) → Result (Vec Event Global) Failure → Type 0

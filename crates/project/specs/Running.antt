@@ -1,5 +1,5 @@
 -- What is promised of a run of events, and of each of them. Assumes nothing: these are definitions.
-use Rattle.std.specs.Prelude.{◌≡◌, ℕ, ◌^◌, ◌<◌, ◌≤◌, List, map, length, Ok, Err, vec_items, string_bytes, Result, Vec, String}
+use Rattle.std.specs.Prelude.{◌≡◌, ℕ, ◌^◌, ◌<◌, ◌≤◌, List, map, length, replicate, Ok, Err, vec_items, string_bytes, Result, Vec, String}
 use Rattle.std.specs.declared.alloc.Global.{Global}
 use Rattle.base.specs.Stores.{cells}
 use Rattle.semantics.specs.Eval.{Program}
@@ -9,11 +9,12 @@ use Rattle.controller.specs.Story.{Decision, tale}
 use Rattle.controller.specs.History.{after}
 use Rattle.controller.specs.Decided.{decide, decided}
 use Rattle.controller.specs.Memory.{project, StandsFor}
+use Rattle.controller.specs.Entries.{New}
 use Rattle.scripts.specs.Script.{Request, request, inputs_after}
 use Rattle.scripts.specs.declared.script.Input.{Input}
 use Rattle.scripts.specs.declared.script.Event.{Event as Line}
 use Rattle.reports.specs.declared.report.Report.{Report}
-use Rattle.project.specs.declared.run.Panel.{Panel}
+use Rattle.project.specs.declared.player.Player.{Player}
 use Rattle.project.specs.declared.run.Parts.{Parts}
 use Rattle.project.specs.declared.run.RunError.{RunError}
 use Rattle.project.specs.declared.run.RunError.TheVariants.{Memory, Kept}
@@ -46,10 +47,22 @@ GoesNoted kept inputs firsts code line memory outside shown memory₁ shown₁ t
     (before : List ℕ) (named : List Input) → cells outside ≡ inputs_after (cells before) named →
     Goes kept inputs firsts code (line named) memory before shown memory₁ outside shown₁ told
 
--- a line was played of a project by its parts, from one panel to another
-abbrev pub Moves : Parts → Request → (memory : List ℕ) → Panel → (memory₁ : List ℕ) → Panel → List Said → Type 0
-Moves l r memory panel memory₁ panel₁ told =
-    Goes l.kept l.inputs.now l.firsts.now l.code.now r memory panel.outside panel.shown memory₁ panel₁.outside panel₁.shown told
+-- a line was played of a project by its parts, from one player to another
+pub record Moves (p : Player) (r : Request) (q : Player) (told : List Said) : Type 0 where
+  pub same : q.project ≡ p.project
+  pub goes : Goes p.project.kept p.project.inputs.now p.project.firsts.now p.project.code.now r (vec_items p.memory) p.outside p.shown (vec_items q.memory) q.outside q.shown told
+
+-- a player of a project begins as it leaves the factory, nothing said and nothing shown; or there are too many kept variables; or there is no memory
+pub record Opened (l : Parts) (p : Player) : Type 0 where
+  pub same : p.project ≡ l
+  pub made : New l.kept l.firsts.now (vec_items p.memory)
+  pub unsaid : p.outside ≡ replicate 64 0
+  pub unshown : p.shown ≡ replicate 64 0
+
+abbrev pub Opens : Parts → Result Player RunError → Type 0
+Opens l (Ok p) = Opened l p
+Opens l (Err Kept) = 64 < l.kept
+Opens l (Err Memory) = Unit {0}
 
 -- what is told is what the story tells, for every program that the code is right for
 abbrev pub Told : (kept : ℕ) → (inputs firsts code : List ℕ) → List Line → List Said → Type 0

@@ -8,5 +8,6 @@ pub use reports::report;
 
 pub mod inputs;
 pub mod play;
+mod player;
 pub mod run;
 mod settings;

@@ -3,11 +3,9 @@ ghost use Rattle.std.specs.Prelude.{◌≡◌, ◌≤◌, length, IfOk};
 ghost use Rattle.base.specs.Stores.{cells, region};
 ghost use Rattle.project.specs.Play.{values_from, changed_from};
 
+use base::VARIABLES;
 use reports::report::Setting;
 use std::alloc::{AllocError, Global};
-
-/// How many variables there are.
-pub(crate) const VARIABLES: usize = 64;
 
 /// The variables' values, which stand first in the controller's memory.
 pub(crate) fn values_in(memory: &[u64]) -> [u64; VARIABLES]
@@ -15,9 +13,7 @@ pub(crate) fn values_in(memory: &[u64]) -> [u64; VARIABLES]
     ensures { cells result ≡ region memory.now 0 64 }
 {
     let mut values = [0; VARIABLES];
-    for i in 0..VARIABLES {
-        values[i] = memory[i];
-    }
+    values.copy_from_slice(&memory[..VARIABLES]);
     values
 }
 
@@ -25,17 +21,16 @@ pub(crate) fn values_in(memory: &[u64]) -> [u64; VARIABLES]
 pub(crate) fn first_settings(
     heap: Global,
     count: usize,
-    values: &[u64],
+    values: &[u64; VARIABLES],
 ) -> Result<Vec<Setting>, AllocError>
-    requires { (count ≤ 64) × (count ≤ length values.now) }
+    requires { count ≤ 64 }
     ensures { IfOk result (λ v. v.items ≡ values_from 0 count (cells values.now)) }
 {
     let mut all = Vec::new(heap);
-    for i in 0..count {
-        let variable = i as u8;
+    for (i, value) in values[..count].iter().enumerate() {
         all.push(Setting {
-            variable,
-            value: values[i],
+            variable: i as u8,
+            value: *value,
         })?;
     }
     Ok(all)
@@ -50,12 +45,11 @@ pub(crate) fn changed_settings(
     ensures { IfOk result (λ v. v.items ≡ changed_from 0 64 (cells before.now) (cells shown.now)) }
 {
     let mut all = Vec::new(heap);
-    for i in 0..VARIABLES {
-        if shown[i] != before[i] {
-            let variable = i as u8;
+    for (i, value) in shown.iter().enumerate() {
+        if *value != before[i] {
             all.push(Setting {
-                variable,
-                value: shown[i],
+                variable: i as u8,
+                value: *value,
             })?;
         }
     }

@@ -1,6 +1,7 @@
 -- What a report says, and the text of its line. Assumes nothing: these are definitions.
 use Rattle.std.specs.Prelude.{ℕ, Bool, true, false, List, [], ◌++◌, vec_items, codes, decimal}
 use Rattle.std.specs.List.{flat_map}
+use Rattle.base.specs.Refusals.{number_of, place_of}
 use Rattle.reports.specs.declared.report.Setting.{Setting}
 use Rattle.reports.specs.declared.report.Report.{Report}
 use Rattle.reports.specs.declared.report.Report.TheVariants.{Started, Scanned, Refused}
@@ -16,7 +17,7 @@ pub data Said : Type 0 where
 abbrev pub said : Report → Said
 said (Started v) = started (vec_items v)
 said (Scanned v lamp) = scanned (vec_items v) lamp
-said (Refused n p) = refused n p
+said (Refused r) = refused (number_of r) (place_of r)
 
 -- a variable and its value, as `v2 17`
 abbrev pub setting_text : Setting → List ℕ
@@ -31,11 +32,15 @@ abbrev pub lamp_text : Bool → List ℕ
 lamp_text true = codes " lamp lit"
 lamp_text false = []
 
+-- the words of what is said
+abbrev pub said_words : Said → List ℕ
+said_words (started l) = codes "start:" ++ flat_map spaced l
+said_words (scanned l lamp) = codes "scan:" ++ (flat_map spaced l ++ lamp_text lamp)
+said_words (refused n p) = codes "refused " ++ (decimal n ++ (codes " at " ++ decimal p))
+
 -- the line of what is said, with its end
 abbrev pub said_text : Said → List ℕ
-said_text (started l) = codes "start:" ++ (flat_map spaced l ++ codes "\n")
-said_text (scanned l lamp) = codes "scan:" ++ (flat_map spaced l ++ (lamp_text lamp ++ codes "\n"))
-said_text (refused n p) = codes "refused " ++ (decimal n ++ (codes " at " ++ (decimal p ++ codes "\n")))
+said_text s = said_words s ++ codes "\n"
 
 -- the line of a report
 abbrev pub line_of : Report → List ℕ
