@@ -1,5 +1,7 @@
 -- What is read of a header and of a script is words.
-use Rattle.std.proofs.Common.{◌≡◌, ℕ, zero, suc, ◌<◌, Bool, true, false, cond, ltb, List, [], ◌∷◌, ◌++◌, get_or, set, replicate, is_some, Some, None, Ok, Err, codes, Option, Result, refl, subst, arith}
+use Rattle.std.proofs.Common.{◌≡◌, ℕ, zero, suc, ◌<◌, Bool, true, false, cond, ltb, List, [], ◌∷◌, ◌++◌, get_or, set, replicate, is_some, Some, None, Ok, Err, codes, Option, Result, map, sym, refl, subst, arith}
+use Rattle.std.specs.Option.{unwrap_or}
+use Rattle.std.proofs.lemmas.List.{map-set}
 use Rattle.std.specs.Str.{bytes_eq}
 use Rattle.std.proofs.lemmas.Bool.{ltb-true}
 use Rattle.base.specs.Stores.{Store, update, cells}
@@ -66,9 +68,12 @@ below_limit limit (Some n) = way (ltb n limit) refl
 value_word : (ws : words.Words) → IfTook (λ n. n < 65536) (take_value ws)
 value_word ws = then_took (λ w. Unit {0}) (λ n. n < 65536) (take_word ws) _ (any _) (λ w us z. read_word (λ n. n < 65536) w.0 (value_of w.1) us (below_limit 65536 (number_of w.1)))
 
--- the first values of a header are words
+-- the first values of a header are words, where what is not said is 0
+abbrev said : List (Option ℕ) → List ℕ
+said = map (λ v. unwrap_or v 0)
+
 abbrev FirstWords : Header → Type 0
-FirstWords h = Words (cells h.firsts)
+FirstWords h = Words (cells (said h.firsts))
 
 abbrev LineWords : Bool × Header → Type 0
 LineWords x = FirstWords x.1
@@ -94,8 +99,8 @@ module _ (h : Header) (w : FirstWords h) where
 
   first_words : (ws : words.Words) → IfTook FirstWords (take_first h ws)
   first_words ws =
-      then_took (λ v. Unit {0}) FirstWords (take (λ u. unless_named h.named (variable_of u)) ws) _ (any _)
-      (λ v us z. then_took (λ n. n < 65536) FirstWords (take_value us) _ (value_word us) (λ n vs l. set_words h.firsts v n w l))
+      then_took (λ v. Unit {0}) FirstWords (take (λ u. unless_named h.firsts (variable_of u)) ws) _ (any _)
+      (λ v us z. then_took (λ n. n < 65536) FirstWords (take_value us) _ (value_word us) (λ n vs l. subst (λ xs. Words (cells xs)) (sym (map-set (λ v. unwrap_or v 0) h.firsts v (Some n))) (set_words (said h.firsts) v n w l)))
 
   more_words : (t : Took Header) → IfTook FirstWords t → IfTook LineWords (more_header t)
   more_words t g = then_took FirstWords LineWords t _ g (λ x ws y. y)

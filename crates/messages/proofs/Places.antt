@@ -1,71 +1,86 @@
 -- Lines and columns of places, and lines found by their first word.
-use Rattle.std.proofs.Common.{◌≡◌, ℕ, ◌+◌, ◌<◌, ◌≤◌, min, cond, eqb, List, [], ◌∷◌, ◌++◌, length, get_or, take, Some, None, sym, refl, ap, ◌∙◌, ⊎_elim, arith}
-use Rattle.std.proofs.lemmas.List.{take_all, take_more}
-use Rattle.std.proofs.lemmas.Bool.{cases_lt, cond-true, cond-false, eq-eqb, ne_eqb}
+use Rattle.std.proofs.Common.{◌≡◌, ℕ, ◌+◌, ◌<◌, ◌≤◌, min, Bool, true, false, not, cond, eqb, count_by, reverse, List, [], ◌∷◌, ◌++◌, length, take, Some, None, Ok, Err, Option, Result, sym, refl, ap, ◌∙◌, ⊎_elim, arith}
+use Rattle.std.proofs.lemmas.List.{take_all, reverse-append, reverse-reverse}
+use Rattle.std.proofs.lemmas.List.Sums.{sum_by-cons}
+use Rattle.std.proofs.lemmas.Bool.{cases_lt}
+use Rattle.std.specs.Bool.{then_some}
+use Rattle.std.specs.List.{prefix_len, suffix_len}
+use Rattle.std.specs.Result.{result_ok}
+use Rattle.std.proofs.lemmas.Option.{none-some, same_Some}
+use Rattle.lines.specs.declared.line.Line.{Line}
+use Rattle.lines.specs.declared.line.Word.{Word}
 use Rattle.lines.specs.declared.words.ReadError.{ReadError}
 use Rattle.lines.specs.declared.words.ReadError.TheVariants.{Memory, At}
-use Rattle.lines.specs.Words.{words_on, lines_on}
-use Rattle.lines.specs.Reading.{Took, take_word, Misses}
+use Rattle.lines.specs.Words.{Words, words_on, lines_on}
+use Rattle.lines.specs.Lines.{lines_of, AllLeft, Gives}
+use Rattle.lines.proofs.Left.{EndsText, last_ends}
+use Rattle.lines.specs.Reading.{Took, took, take_word, Misses, Answers}
 use Rattle.messages.specs.MessageText.{line_feeds, since_feed, keyword_place, line_place}
-use Rattle.lines.proofs.LineCuts.{Lacks, first_line, last_line}
-
-feeds_push : (xs : List ℕ) (b : ℕ) → line_feeds (xs ++ (b ∷ [])) ≡ line_feeds xs + cond (eqb b 10) 1 0
-unfolding line_feeds
-feeds_push [] b = omega arith
-feeds_push (x ∷ xs) b = omega (arith, feeds_push xs b)
 
 since_push : (n : ℕ) (xs : List ℕ) (b : ℕ) → since_feed n (xs ++ (b ∷ [])) ≡ cond (eqb b 10) 0 (since_feed n xs + 1)
 unfolding since_feed
 since_push n [] b = refl
 since_push n (x ∷ xs) b = since_push (cond (eqb x 10) 0 (n + 1)) xs b
 
--- a turn of the loop: at a line feed, and at any other byte
-module _ (xs : List ℕ) (i : ℕ) (inside : i < length xs) where
-  pub feed_counted : (n : ℕ) → get_or xs i 0 ≡ 10 → n ≡ line_feeds (take i xs) → n + 1 ≡ line_feeds (take (i + 1) xs)
-  feed_counted n e inv =
-      ap (λ m. m + 1) inv
-      ∙ ap (λ m. line_feeds (take i xs) + m) (sym (cond-true (eqb (get_or xs i 0) 10) 1 0 (eq-eqb _ 10 e)))
-      ∙ sym (ap line_feeds (take_more xs i 0 inside) ∙ feeds_push (take i xs) (get_or xs i 0))
+pub feeds_counted : (xs : List ℕ) → count_by (λ b. eqb b 10) xs ≡ line_feeds xs
+unfolding line_feeds
+feeds_counted [] = refl
+feeds_counted (x ∷ xs) = sum_by-cons (λ b. cond (eqb b 10) 1 0) x xs ∙ ap (λ n. cond (eqb x 10) 1 0 + n) (feeds_counted xs)
 
-  pub feed_passed : (n : ℕ) → (get_or xs i 0 ≡ 10 → ⊥) → n ≡ line_feeds (take i xs) → n ≡ line_feeds (take (i + 1) xs)
-  feed_passed n e inv =
-      let none : line_feeds (take i xs) ≡ line_feeds (take i xs) + 0 = omega arith in
-      inv
-      ∙ none
-      ∙ ap (λ m. line_feeds (take i xs) + m) (sym (cond-false (eqb (get_or xs i 0) 10) 1 0 (ne_eqb _ 10 e)))
-      ∙ sym (ap line_feeds (take_more xs i 0 inside) ∙ feeds_push (take i xs) (get_or xs i 0))
+-- one byte more stands after the last line feed, or it is one
+one_more : (feed : Bool) (m n : ℕ) → m ≡ n → cond (not feed) (1 + m) 0 ≡ cond feed 0 (n + 1)
+one_more true m n e = refl
+one_more false m n e = omega (arith, e)
 
-  pub since_none : get_or xs i 0 ≡ 10 → 0 ≡ since_feed 0 (take (i + 1) xs)
-  since_none e = sym (ap (since_feed 0) (take_more xs i 0 inside) ∙ since_push 0 (take i xs) (get_or xs i 0) ∙ cond-true (eqb (get_or xs i 0) 10) 0 _ (eq-eqb _ 10 e))
+since_reversed : (ys : List ℕ) → prefix_len (λ b. not (eqb b 10)) ys ≡ since_feed 0 (reverse ys)
+unfolding since_feed
+since_reversed [] = refl
+since_reversed (b ∷ ys) =
+    one_more (eqb b 10) _ _ (since_reversed ys) ∙ sym (ap (since_feed 0) (reverse-append (b ∷ []) ys) ∙ since_push 0 (reverse ys) b)
 
-  pub since_more : (n : ℕ) → (get_or xs i 0 ≡ 10 → ⊥) → n ≡ since_feed 0 (take i xs) → n + 1 ≡ since_feed 0 (take (i + 1) xs)
-  since_more n e inv =
-      ap (λ m. m + 1) inv
-      ∙ sym (ap (since_feed 0) (take_more xs i 0 inside) ∙ since_push 0 (take i xs) (get_or xs i 0) ∙ cond-false (eqb (get_or xs i 0) 10) 0 _ (ne_eqb _ 10 e))
+pub since_counted : (xs : List ℕ) → suffix_len (λ b. not (eqb b 10)) xs ≡ since_feed 0 xs
+since_counted xs = since_reversed (reverse xs) ∙ ap (since_feed 0) (reverse-reverse xs)
 
--- a line that has no word does not begin with this one
-pub no_keyword : (k : List ℕ) (e : ReadError) (t : Took (ℕ × List ℕ)) → Misses ⊥ e t → None ≡ keyword_place k t
+-- a line's first word, or none
+no_keyword : (k : List ℕ) (e : ReadError) (t : Took (ℕ × List ℕ)) → Misses ⊥ e t → None ≡ keyword_place k t
 no_keyword k Memory t h = absurd h
 no_keyword k (At p) t h = sym (ap (keyword_place k) h)
 
--- a line, its first or its last
-module _ (k : List ℕ) (here : ℕ) (rest xs ys : List ℕ) (cut : rest ≡ xs ++ (10 ∷ ys)) (lacks : Lacks 10 xs) where
-  pub line_found : (p : ℕ) → Some p ≡ keyword_place k (take_word (words_on here [] xs)) → line_place k (lines_on here [] rest) ≡ p
-  unfolding line_place
-  line_found p e = ap (line_place k) (first_line here rest xs ys cut lacks) ∙ rw (sym e)
+pub word_none : (k : List ℕ) (us : Words) (t : Took (ℕ × List ℕ)) (r : Result Word ReadError) → Answers ⊥ r (λ (w : Word). took (w.at, w.text.now) us) t → None ≡ result_ok r → None ≡ keyword_place k t
+word_none k us t (Ok w) h e = absurd (none-some w e)
+word_none k us t (Err d) h e = no_keyword k d t h
 
-  pub line_passed : None ≡ keyword_place k (take_word (words_on here [] xs)) → line_place k (lines_on here [] rest) ≡ line_place k (lines_on (here + (length xs + 1)) [] ys)
-  unfolding line_place
-  line_passed e = ap (line_place k) (first_line here rest xs ys cut lacks) ∙ rw (sym e)
+pub word_some : (w : Word) (us : Words) (t : Took (ℕ × List ℕ)) (r : Result Word ReadError) → Answers ⊥ r (λ (v : Word). took (v.at, v.text.now) us) t → Some w ≡ result_ok r → t ≡ took (w.at, w.text.now) us
+word_some w us t (Ok v) h e = h ∙ ap (λ (x : Word). took (x.at, x.text.now) us) (sym (same_Some w v e))
+word_some w us t (Err d) h e = absurd (none-some w (sym e))
 
-module _ (k : List ℕ) (here : ℕ) (rest : List ℕ) (lacks : Lacks 10 rest) where
-  pub last_found : (p : ℕ) → Some p ≡ keyword_place k (take_word (words_on here [] rest)) → line_place k (lines_on here [] rest) ≡ p
-  unfolding line_place
-  last_found p e = ap (line_place k) (last_line here rest lacks) ∙ rw (sym e)
+-- the word's place, if it is this one
+pub some_if : (b : Bool) (p : ℕ) → then_some b p ≡ cond b (Some p) None
+some_if true p = refl
+some_if false p = refl
 
-  pub none_found : None ≡ keyword_place k (take_word (words_on here [] rest)) → line_place k (lines_on here [] rest) ≡ here + length rest
+-- where the lines that are left have the word; the end of the text if they don't
+abbrev pub place_on : List ℕ → List ℕ → Option Line → ℕ
+place_on k text None = length text
+place_on k text (Some left) = line_place k (lines_of left)
+
+pub place_begins : (k text : List ℕ) (left : Option Line) → AllLeft text left → line_place k (lines_on 0 [] text) ≡ place_on k text left
+place_begins k text None h = absurd h
+place_begins k text (Some l) h = rw (h.0, h.1) refl
+
+-- a line that begins with the word, or does not
+module _ (k text : List ℕ) (l : Line) where
+  pub line_found : (p : ℕ) (left more : Option Line) → Gives left (Some l) more → Some p ≡ keyword_place k (take_word (words_on l.at [] l.text.now)) → place_on k text left ≡ p
   unfolding line_place
-  none_found e = ap (line_place k) (last_line here rest lacks) ∙ rw (sym e)
+  line_found p None more g e = absurd (none-some l (sym g.0))
+  line_found p (Some r) None g e = ap (line_place k) g.lines ∙ rw (sym e)
+  line_found p (Some r) (Some m) g e = ap (line_place k) g.lines ∙ rw (sym e)
+
+  pub line_passed : (left more : Option Line) → EndsText text left → Gives left (Some l) more → None ≡ keyword_place k (take_word (words_on l.at [] l.text.now)) → place_on k text left ≡ place_on k text more
+  unfolding line_place
+  line_passed None more a g e = absurd (none-some l (sym g.0))
+  line_passed (Some r) None a g e = ap (line_place k) g.lines ∙ rw (sym e) (last_ends text r l a g)
+  line_passed (Some r) (Some m) a g e = ap (line_place k) g.lines ∙ rw (sym e)
 
 -- past the end of a text nothing is left to take
 pub take_min : (n : ℕ) (xs : List ℕ) → take (min n (length xs)) xs ≡ take n xs

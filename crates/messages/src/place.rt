@@ -1,12 +1,27 @@
 //! Places in a text: their lines and columns, and the message that points at one.
-ghost use Rattle.std.specs.Prelude.{◌≡◌, ◌+◌, ◌^◌, ◌<◌, [], ◌++◌, length, IfOk, string_bytes, codes};
+ghost use Rattle.std.specs.Prelude.{not, count_by, ◌==◌, ◌≡◌, ◌+◌, ◌^◌, ◌<◌, [], ◌++◌, length, IfOk, string_bytes, codes};
+ghost use Rattle.std.specs.List.{suffix_len};
 ghost use Rattle.messages.specs.MessageText.{line_at, column_at, keyword_place, line_place, message};
 ghost use Rattle.lines.specs.Reading.{take_word};
 ghost use Rattle.lines.specs.Words.{words_on, lines_on};
 
 use base::Refusal;
-use lines::line::Line;
+use lines::line::{Line, Lines};
 use std::alloc::{AllocError, Global};
+
+/// How many line feeds there are.
+fn line_feeds(bytes: &[u8]) -> usize
+    ensures { result ≡ count_by (λ b. b == 10) bytes.now }
+{
+    bytes.iter().filter(|b| **b == b'\n').count()
+}
+
+/// How many bytes stand after the last line feed.
+fn since_feed(bytes: &[u8]) -> usize
+    ensures { result ≡ suffix_len (λ b. not (b == 10)) bytes.now }
+{
+    bytes.iter().rev().take_while(|b| **b != b'\n').count()
+}
 
 /// The line and the column of a place in a text, both counted from 1.
 pub fn line_and_column(text: &str, place: usize) -> (usize, usize)
@@ -14,53 +29,28 @@ pub fn line_and_column(text: &str, place: usize) -> (usize, usize)
     ensures column { result.1 ≡ column_at text.now place }
 {
     let bytes = text.as_bytes();
-    let end = place.min(bytes.len());
-    let mut feeds = 0;
-    let mut since = 0;
-    for i in 0..end {
-        if bytes[i] == b'\n' {
-            feeds += 1;
-            since = 0;
-        } else {
-            since += 1;
-        }
-    }
-    (1 + feeds, 1 + since)
+    let before = &bytes[..place.min(bytes.len())];
+    (1 + line_feeds(before), 1 + since_feed(before))
 }
 
-/// Where a line that begins at `at` has a keyword first; none if it begins with another word, or with none.
-fn keyword_place(text: &str, at: usize, keyword: &str) -> Option<usize>
-    requires fits { at + length text.now < 2 ^ 64 }
-    ensures { result ≡ keyword_place keyword.now (take_word (words_on at [] text.now)) }
+/// Where a line has a keyword first; none if it begins with another word, or with none.
+fn keyword_place(mut line: Line<'_>, keyword: &str) -> Option<usize>
+    ensures { result ≡ keyword_place keyword.now (take_word (words_on line.entry.at [] line.entry.text.now)) }
 {
-    let mut line = Line { at, text };
-    let Ok(word) = line.word() else {
-        return None;
-    };
-    if word.text == keyword {
-        Some(word.at)
-    } else {
-        None
-    }
+    let word = line.word().ok()?;
+    (word.text == keyword).then_some(word.at)
 }
 
 /// Where the first line that begins with a keyword has it; the end of the text if there is none.
 pub fn place_of_line(text: &str, keyword: &str) -> usize
     ensures { result ≡ line_place keyword.now (lines_on 0 [] text.now) }
 {
-    let mut rest = text;
-    let mut here = 0;
-    while let Some((line, after)) = rest.split_once('\n') {
-        if let Some(at) = keyword_place(line, here, keyword) {
-            return at;
+    for line in Lines::new(text) {
+        if let Some(place) = keyword_place(line, keyword) {
+            return place;
         }
-        here += line.len() + 1;
-        rest = after;
     }
-    match keyword_place(rest, here, keyword) {
-        Some(at) => at,
-        None => text.len(),
-    }
+    text.len()
 }
 
 /// The message of a refusal at a place of a file's text.

@@ -1,6 +1,6 @@
 //! A small project played: what is reported, line by line.
 use formats::script::{Event, Input};
-use project::run::{RunError, play_events};
+use project::run::{Parts, RunError, play_events};
 use std::alloc::{AllocError, Global};
 use std::test::Fail;
 
@@ -63,7 +63,13 @@ fn two_days(rt: HostRuntime) -> Result<(), Fail> {
     let mut events = Vec::new(heap);
     first_day(&mut events, heap)?;
     second_day(&mut events, heap)?;
-    let text = play_events(heap, 3, &inputs, &firsts, &CODE, events.as_slice())?;
+    let project = Parts {
+        kept: 3,
+        inputs: &inputs,
+        firsts: &firsts,
+        code: &CODE,
+    };
+    let text = play_events(heap, &project, events.as_slice())?;
     assert_eq!(rt;
         text.as_str(),
         "refused 6 at 0\nstart: v0 0 v1 7 v2 0\nscan: v0 4 v2 5\nscan: v0 6 v2 9\nstart: v0 6 v1 7 v2 7\nrefused 9 at 0\nrefused 7 at 0\nscan: v0 8 v2 9\n"
@@ -80,7 +86,13 @@ fn lamp(rt: HostRuntime) -> Result<(), Fail> {
     events.push(Event::Start)?;
     events.push(scan_on(heap, 1))?;
     events.push(scan_on(heap, 1))?;
-    let text = play_events(heap, 0, &[0; 64], &[0; 64], &code, events.as_slice())?;
+    let project = Parts {
+        kept: 0,
+        inputs: &[0; 64],
+        firsts: &[0; 64],
+        code: &code,
+    };
+    let text = play_events(heap, &project, events.as_slice())?;
     assert_eq!(rt; text.as_str(), "start:\nscan: lamp lit\nscan:\n");
     Ok(())
 }
@@ -90,7 +102,13 @@ fn lamp(rt: HostRuntime) -> Result<(), Fail> {
 fn too_many_kept(rt: HostRuntime) -> Result<(), Fail> {
     let heap = rt.alloc();
     let events = Vec::new(heap);
-    match play_events(heap, 65, &[0; 64], &[0; 64], &CODE, events.as_slice()) {
+    let project = Parts {
+        kept: 65,
+        inputs: &[0; 64],
+        firsts: &[0; 64],
+        code: &CODE,
+    };
+    match play_events(heap, &project, events.as_slice()) {
         Err(RunError::Kept) => Ok(()),
         _ => Err(Fail::new("taken")),
     }
