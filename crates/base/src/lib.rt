@@ -26,6 +26,7 @@ pub enum Op {
 
 impl Op {
     /// Its number in tokens, nodes and instructions, which the definitions call by this name.
+    #[tactic(auto, unfolding(crate::specs::Ops::op_code))]
     pub fn number(self) -> u16
         ensures { result ≡ op_code self }
     {

@@ -92,7 +92,7 @@ pub fn load(heap: Global, text: &str) -> Result<Loaded, Failure>
     ensures within { LoadsWithinNeeds text.now result }
 {
     let project = read_project(text)?;
-    let tokens = tokens_of(heap, project.program)?;
+    let tokens = tokens_of(heap, project.program.text)?;
     let code = code_of(heap, tokens.as_slice())?;
     project.check_kept().map_err(Failure::Header)?;
     Ok(Loaded {
