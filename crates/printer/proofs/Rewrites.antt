@@ -1,10 +1,9 @@
 -- What is read and printed again.
-use Rattle.std.proofs.Common.{◌≡◌, ℕ, ◌*◌, leb, List, length, Some, None, Ok, Err, Result, refl, arith, leb-false, leb-true}
+use Rattle.std.proofs.Common.{◌≡◌, ℕ, ◌*◌, leb, List, length, Some, None, Ok, Err, Result, arith, leb-false, leb-true}
 use Rattle.base.specs.declared.Refusal.{Refusal}
 use Rattle.base.specs.declared.Refusal.TheVariants.{Token, Program, Limit, Room, Length, Off, Time, Stamp, Point}
 use Rattle.base.specs.Refusals.{unless}
 use Rattle.base.proofs.Checks.{passed, refused_so}
-use Rattle.syntax.specs.Outcomes.{Parses}
 use Rattle.printer.specs.Reprints.{ShortestText, TooShort, Reprints}
 use Rattle.printer.specs.Printed.{Prints}
 use Rattle.syntax.specs.Printer.{print}
@@ -42,15 +41,3 @@ module _ (xs room m : List ℕ) (i : ℕ) (w : WellShaped xs) (p : ProgramOf xs 
   rewritten (Err Time) room' f = absurd (omega (arith, (too_short 7 0 (f p.program p.holds).0).0))
   rewritten (Err Stamp) room' f = absurd (omega (arith, (too_short 8 0 (f p.program p.holds).0).0))
   rewritten (Err (Point k)) room' f = absurd (omega (arith, (too_short 9 k (f p.program p.holds).0).0))
-
--- what is no program is not printed
-pub unread : (xs room : List ℕ) (e : Refusal) → Parses xs (Err e) → Reprints xs room (Err e) room
-unread xs room (Token i) h = (h, refl)
-unread xs room (Program i) h = (h, refl)
-unread xs room (Limit i) h = h
-unread xs room (Room i) h = h
-unread xs room (Length i) h = absurd h
-unread xs room Off h = h
-unread xs room Time h = h
-unread xs room Stamp h = h
-unread xs room (Point i) h = h

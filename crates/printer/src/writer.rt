@@ -27,6 +27,7 @@ impl Writer<'_> {
         ensures same { SameRoom self.old self.new }
         ensures puts { Puts (token ∷ []) self.old self.new }
     {
+        // Tokens lie in a lent room as pairs of numbers.
         if self.count < self.room.len() / 2 {
             let (kind, value) = token.pair();
             self.room[2 * self.count] = kind;

@@ -8,10 +8,10 @@ use Rattle.base.specs.Words.{bit, truthy, apply_op, op_fault, first_of}
 use Rattle.syntax.specs.Ast.{Expr, Stmt, skip, delay}
 use Rattle.syntax.specs.Tree.{HoldsStmt}
 use Rattle.syntax.specs.Node.{IsExpr, IsStmt, IsSetting}
-use Rattle.syntax.specs.declared.node.Node.TheVariants.{Literal, Variable, Not, Binary, Assign, Seq, Branch, Repeat, Delay, Setting}
+use Rattle.syntax.specs.declared.node.Node.TheVariants.{Literal, Variable, Not, Binary, Assign, Seq, Branch, Repeat, Setting}
 use Rattle.semantics.specs.Eval.{Values, eval, faults, iterate, exec}
 use Rattle.semantics.specs.Needs.{stmt_need}
-use Rattle.semantics.specs.Evaluated.{values_in, Valued, ValuesExpr, Ran, RunsDelay, RunsStmt}
+use Rattle.semantics.specs.Evaluated.{values_in, Valued, ValuesExpr, Ran, RunsStmt}
 use Rattle.semantics.proofs.Faults.{first_zero, first_assoc}
 
 -- a truth value as the code makes a number of it
@@ -97,9 +97,6 @@ module _ (m : List ℕ) (elapsed : ℕ) (vars : List ℕ) (fault : ℕ) where
       let b : on ≡ truthy (eval 0 (cells vars) e) = on_is ∙ ap truthy a.is in
       values _ _ _ _ (w (omega arith) (omega arith) ∙ (λ j. delayed elapsed (o j) (c j) (sym i.0 j) (b j) (cells vars))) a.noted
 
-  pub run_delay : (out counter x f : ℕ) (vars' : List ℕ) → RunsDelay m x elapsed out counter vars fault vars' f → (s : Stmt) → IsStmt m (Delay out counter x) s → Ran elapsed s vars fault vars' f
-  run_delay out counter x f vars' p s i = rw i.2 (p i.0 i.1 i.3)
-
 -- what the rounds that are left come to is what all of them do
 abbrev pub RoundsLeft : (m : List ℕ) (x elapsed rounds done : ℕ) (vars : List ℕ) (fault : ℕ) (vars' : List ℕ) (fault' : ℕ) → Type 0
 RoundsLeft m x elapsed rounds done vars fault vars' fault' =
@@ -107,9 +104,6 @@ RoundsLeft m x elapsed rounds done vars fault vars' fault' =
     iterate (rounds - done) (exec elapsed 0 s) (values_in vars' fault') ≡ iterate rounds (exec elapsed 0 s) (values_in vars fault)
 
 module _ (m : List ℕ) (x elapsed rounds : ℕ) (vars : List ℕ) (fault : ℕ) where
-  pub rounds_none : RoundsLeft m x elapsed rounds 0 vars fault vars fault
-  rounds_none s h near = let e : rounds - 0 ≡ rounds = omega arith in rw e
-
   pub rounds_more : (done : ℕ) (vars₁ : List ℕ) (f : ℕ) (vars₂ : List ℕ) (g : ℕ) → done < rounds → length vars₁ ≡ length vars →
       RoundsLeft m x elapsed rounds done vars fault vars₁ f → RunsStmt m x elapsed vars₁ f vars₂ g → RoundsLeft m x elapsed rounds (done + 1) vars fault vars₂ g
   unfolding iterate

@@ -2,10 +2,10 @@
 ghost use Rattle.std.specs.Prelude.{◌≡◌, ◌-◌, ◌^◌, ◌<◌, max};
 ghost use Rattle.semantics.specs.Joins.{told, one_more, raised, followed_by, either, repeated, reaching};
 
-use super::limits::Needs;
+use super::limits::{MOST_INSTRUCTIONS, Needs};
 
 /// The least cost that is refused: a larger one counts as this.
-const TOO_MANY: u32 = 20001;
+const TOO_MANY: u32 = MOST_INSTRUCTIONS + 1;
 
 impl Needs {
     /// What a number needs.

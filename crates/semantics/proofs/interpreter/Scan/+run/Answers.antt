@@ -1,7 +1,7 @@
 use Rattle.std.proofs.Common.{rules}
 use Rattle.std.proofs.lemmas.Bool.{eq-eqb, ne_eqb}
 use Rattle.syntax.proofs.OtherNodes.{only_skip}
-use Rattle.semantics.proofs.Evaluating.{run_assign, run_seq, run_then, run_else, run_delay, run_skip, rounds_more, rounds_all}
+use Rattle.semantics.proofs.Evaluating.{run_assign, run_seq, run_then, run_else, run_skip, rounds_more, rounds_all}
 use Rattle.semantics.proofs.interpreter.Scan.+run.Goals as goal
 
 pub returns-in-Assign-clause-runs : goal.returns-in-Assign-clause-runs
@@ -54,11 +54,6 @@ returns-after-loop-round-clause-runs t c s h =
     let r = c.args.self.now in
     let loop = c.loop-round in
     rounds_all r.nodes.now c.in-Repeat.body r.elapsed c.in-Repeat.rounds r.vars.now r.fault loop._round loop.self.vars.now loop.self.fault c.loop-round-test.false loop.invariant.left s (c.in-Repeat.ensures.stmt s h)
-
-pub returns-in-Delay-clause-runs : goal.returns-in-Delay-clause-runs
-returns-in-Delay-clause-runs t c s h =
-    let r = c.args.self.now in
-    run_delay r.nodes.now r.elapsed r.vars.now r.fault c.in-Delay.out c.in-Delay.counter c.in-Delay.setting c.delay.new.self.fault c.delay.new.self.vars.now c.delay.ensures.runs s (c.in-Delay.ensures.stmt s h)
 
 pub returns-in_default-clause-runs : goal.returns-in_default-clause-runs
 returns-in_default-clause-runs t c s h =
