@@ -1,5 +1,5 @@
--- A list of 64 numbers is known by its items: one that a loop fills, and one that a closure made by what each call gave.
-use Rattle.std.proofs.Common.{◌≡◌, ℕ, zero, suc, ◌+◌, ◌<◌, ◌≤◌, List, length, get_or, set, sym, ap, ◌∙◌, subst, ⊎_elim, arith, length-set, get_or-set_other, get_or-set_same}
+-- A list of 64 numbers is known by its items, and one that a closure made by what each call gave.
+use Rattle.std.proofs.Common.{◌≡◌, ℕ, zero, suc, ◌+◌, ◌<◌, ◌≤◌, List, length, get_or, sym, ap, ◌∙◌, subst, ⊎_elim, arith}
 use mathlib.Core.Path.{fun_ext}
 use denote.Param.Members.{Mut, Called}
 use Rattle.std.specs.Array.{IsFromFnResult, IsFromFnResultFrom}
@@ -13,27 +13,6 @@ filled f xs long front past =
     (λ (h : i < 64). front i h)
     (λ (h : 64 ≤ i). get_or_past xs i 0 (omega arith) ∙ sym (past i h))
     (cases_lt i 64))
-
--- the first n of 64 cells hold what f says
-pub record Filled (n : ℕ) (f : Store) (xs : List ℕ) : Type 0 where
-  pub long : length xs ≡ 64
-  pub front : (i : ℕ) → i < n → get_or xs i 0 ≡ f i
-
-pub filled_none : (f : Store) (xs : List ℕ) → length xs ≡ 64 → Filled 0 f xs
-filled_none f xs e = record { long = e; front = λ i h. absurd (omega arith) }
-
-pub filled_more : (n : ℕ) (f : Store) (xs : List ℕ) (v : ℕ) → n < 64 → v ≡ f n → Filled n f xs → Filled (n + 1) f (set xs n v)
-filled_more n f xs v l e o = record {
-  long = simp length-set o.long;
-  front = λ i h. ⊎_elim
-      (λ q. ap (λ x. get_or (set xs n v) x 0) q ∙ get_or-set_same xs n v 0 (omega arith) ∙ e ∙ ap f (sym q))
-      (λ q. get_or-set_other xs n i v 0 q ∙ o.front i (omega arith))
-      (cases_eq i n);
-}
-
--- all of them are filled
-pub filled_all : (n : ℕ) (f : Store) (xs : List ℕ) → 64 ≤ n → ((i : ℕ) → 64 ≤ i → f i ≡ 0) → Filled n f xs → cells xs ≡ f
-filled_all n f xs l past o = filled f xs o.long (λ i h. o.front i (omega arith)) past
 
 module _ {F : Type 0} (g : Mut F (ℕ × Unit {0}) ℕ) (f : F) (xs : List ℕ) (h : Store) (call : (k y : ℕ) (q : F) → Called g f (k, tt) y q → (y ≡ h k) × (q ≡ f)) where
   made_from : (n i : ℕ) → IsFromFnResultFrom g f xs i n → (j : ℕ) → i ≤ j → j < i + n → get_or xs j 0 ≡ h j

@@ -4,7 +4,7 @@ use Rattle.std.proofs.lemmas.List.{take_more_set, drop_more, drop_all, length-ap
 use Rattle.std.proofs.lemmas.Bool.{not-true, not-false, cond-true, cond-false, eqb-true, eq-eqb, ne_eqb, cases_eq}
 use Rattle.retain.specs.declared.Write.{Write}
 use Rattle.retain.specs.declared.slots.Target.{Target}
-use Rattle.base.specs.Stores.{Store, cells, update}
+use Rattle.base.specs.Stores.{Store, cells}
 use Rattle.retain.specs.Device.{cell_count, slot_base, current, stamp, slot_writes, commit_writes, value_writes, apply_writes, cut_writes, effective_writes}
 use Rattle.retain.specs.Commit.{planned}
 use Rattle.retain.specs.Entry.{Next, slot_write, WriteCell}
@@ -38,29 +38,25 @@ last_at from v w e i zero = refl
 last_at from v w e i (suc n) = last_at from v w e (suc i) n
 
 written : (kept : ℕ) (t : Target) (v : Store) (m : ℕ) → (slot_write kept t v (suc m)).value ≡ cond (eqb (suc m) (kept + 1)) t.stamp (v (suc m - 1))
-written kept t v m = cond-false (eqb (suc m) 0) t.stamp (cond (eqb (suc m) (kept + 1)) t.stamp (v (suc m - 1))) (ne_eqb (suc m) 0 (λ x. omega arith))
+written kept t v m = cond-false _ _ _ (ne_eqb (suc m) 0 (λ x. omega arith))
 
 planned_at : (kept : ℕ) (t : Target) (v : Store) (e : Write) (i : ℕ) → i < kept + 2 → get_or (planned kept t v) i e ≡ slot_write kept t v i
 planned_at kept t v e zero l = ap (λ x. record { cell = x; value = t.stamp }) (omega arith)
 planned_at kept t v e (suc m) l =
     elim (cases_eq m kept) [
       | inl q ↦ ap (λ x. get_or (planned kept t v) (suc x) e) q ∙ last_at (t.cell + 1) v _ e 0 kept
-          ∙ ap₂ (λ x y. record { cell = x; value = y }) (omega arith) (sym (written kept t v m ∙ cond-true (eqb (suc m) (kept + 1)) t.stamp (v (suc m - 1)) (eq-eqb (suc m) (kept + 1) (omega arith))))
+          ∙ ap₂ (λ x y. record { cell = x; value = y }) (omega arith) (sym (written kept t v m ∙ cond-true _ _ _ (eq-eqb (suc m) (kept + 1) (omega arith))))
       | inr q ↦ value_at (t.cell + 1) v _ e 0 kept m (omega arith)
           ∙ ap₂ (λ x y. record { cell = x; value = y }) (omega arith)
-          (ap v (omega arith) ∙ sym (written kept t v m ∙ cond-false (eqb (suc m) (kept + 1)) t.stamp (v (suc m - 1)) (ne_eqb (suc m) (kept + 1) (λ x. q (omega arith)))))
+          (ap v (omega arith) ∙ sym (written kept t v m ∙ cond-false _ _ _ (ne_eqb (suc m) (kept + 1) (λ x. q (omega arith)))))
     ]
 
 -- the writes that are still to come: the next one and those after it, and none
-pub to_come_more : (kept : ℕ) (t : Target) (v : Store) (i : ℕ) → i < kept + 2 → drop i (planned kept t v) ≡ slot_write kept t v i ∷ drop (i + 1) (planned kept t v)
-to_come_more kept t v i l =
-    drop_more (planned kept t v) i (slot_write kept t v i) (omega (arith, planned_length kept t v)) ∙ ap (λ w. w ∷ drop (i + 1) (planned kept t v)) (planned_at kept t v (slot_write kept t v i) i l)
-
 pub to_come_none : (kept : ℕ) (t : Target) (v : Store) (i : ℕ) → i ≡ kept + 2 → drop i (planned kept t v) ≡ []
 to_come_none kept t v i l = drop_all i (planned kept t v) (omega (arith, planned_length kept t v))
 
 pub next_to_come : (kept : ℕ) (t : Target) (v : Store) (i : ℕ) (w : Write) → i < kept + 2 → w ≡ slot_write kept t v i → drop i (planned kept t v) ≡ w ∷ drop (i + 1) (planned kept t v)
-next_to_come kept t v i w l e = to_come_more kept t v i l ∙ ap (λ x. x ∷ drop (i + 1) (planned kept t v)) (sym e)
+next_to_come kept t v i w l e = drop_more (planned kept t v) i w (omega (arith, planned_length kept t v)) ∙ ap (λ x. x ∷ drop (i + 1) (planned kept t v)) (planned_at kept t v w i l ∙ sym e)
 
 -- a commit writes to the cells of its device, as often as there are cells in a slot
 pub commit_within : (kept : ℕ) (d v : Store) → Within 0 (cell_count kept) (commit_writes kept d v)
@@ -86,8 +82,8 @@ module _ (end : Store) (all room : List Write) (d : List ℕ) (noted : List Writ
   step_held : eqb (get_or d w.cell 0) w.value ≡ true → Going end all room d noted m (w ∷ ws) → Going end all room d noted m ws
   unfolding apply_writes effective_writes
   step_held e g = record {
-    device = sym (cond-true (eqb (get_or d w.cell 0) w.value) (apply_writes (cells d) ws) (apply_writes (update (cells d) w.cell w.value) ws) e) ∙ g.device;
-    writes = ap (λ x. take m noted ++ x) (sym (cond-true (eqb (get_or d w.cell 0) w.value) (effective_writes (cells d) ws) (w ∷ effective_writes (update (cells d) w.cell w.value) ws) e)) ∙ g.writes;
+    device = sym (cond-true _ _ _ e) ∙ g.device;
+    writes = ap (λ x. take m noted ++ x) (sym (cond-true _ _ _ e)) ∙ g.writes;
     beyond = g.beyond;
   }
 
@@ -95,11 +91,11 @@ module _ (end : Store) (all room : List Write) (d : List ℕ) (noted : List Writ
   unfolding apply_writes effective_writes
   step_done lc lm e g = record {
     device = ap (λ s. apply_writes s ws) (cells_set d w.cell w.value lc)
-        ∙ sym (cond-false (eqb (get_or d w.cell 0) w.value) (apply_writes (cells d) ws) (apply_writes (update (cells d) w.cell w.value) ws) e) ∙ g.device;
+        ∙ sym (cond-false _ _ _ e) ∙ g.device;
     writes = ap (λ t. t ++ effective_writes (cells (set d w.cell w.value)) ws) (take_more_set noted m w lm)
         ∙ append_assoc (take m noted) (w ∷ []) (effective_writes (cells (set d w.cell w.value)) ws)
         ∙ ap (λ s. take m noted ++ (w ∷ effective_writes s ws)) (cells_set d w.cell w.value lc)
-        ∙ ap (λ x. take m noted ++ x) (sym (cond-false (eqb (get_or d w.cell 0) w.value) (effective_writes (cells d) ws) (w ∷ effective_writes (update (cells d) w.cell w.value) ws) e))
+        ∙ ap (λ x. take m noted ++ x) (sym (cond-false _ _ _ e))
         ∙ g.writes;
     beyond = drop-set-lt (m + 1) noted m w (omega arith) ∙ sym (drop-drop 1 m noted) ∙ ap (drop 1) g.beyond ∙ drop-drop 1 m room;
   }
@@ -125,7 +121,7 @@ pub gone : (d : List ℕ) (w : Write) (ws : List Write) (k junk : ℕ) (d' : Lis
 unfolding cut_writes
 gone d w ws k junk d' lc h =
     ap cells h.2 ∙ cells_set d w.cell junk lc
-    ∙ sym (cond-false (eqb (get_or d w.cell 0) w.value) (cut_writes (cells d) ws 0 junk) (update (cells d) w.cell junk) h.0)
+    ∙ sym (cond-false _ _ _ h.0)
     ∙ ap (λ x. cut_writes (cells d) (w ∷ ws) x junk) (sym h.1)
 
 went_by : (d : List ℕ) (w : Write) (ws : List Write) (m junk : ℕ) → w.cell < length d → (b : Bool) → eqb (get_or d w.cell 0) w.value ≡ b →
@@ -135,7 +131,7 @@ went_by d w ws m junk lc true e = sym (cut_skip w ws (cells d) m junk (eqb-true 
 went_by d w ws m junk lc false e =
     let f : suc m ≡ m + 1 = omega arith in
     ap (λ s. cut_writes s ws m junk) (cells_set d w.cell w.value lc)
-    ∙ sym (cond-false (eqb (get_or d w.cell 0) w.value) (cut_writes (cells d) ws (suc m) junk) (cut_writes (update (cells d) w.cell w.value) ws m junk) e)
+    ∙ sym (cond-false _ _ _ e)
     ∙ ap (λ x. cut_writes (cells d) (w ∷ ws) x junk) f
 
 pub went : (d : List ℕ) (w : Write) (ws : List Write) (k junk m : ℕ) (d' : List ℕ) → w.cell < length d →

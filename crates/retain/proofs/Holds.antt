@@ -1,5 +1,5 @@
 -- One step of a device: a commit that ends, and one that is cut, keep it sound and leave the values that they should.
-use Rattle.std.proofs.Common.{◌≡◌, ℕ, suc, ◌+◌, ◌-◌, ◌<◌, ◌≤◌, Bool, true, false, cond, not, eqb, ltb, ◌⊎◌, List, [], ◌∷◌, ◌++◌, sym, refl, ap, ◌∙◌, subst, ap₂, inl, inr, arith}
+use Rattle.std.proofs.Common.{◌≡◌, ℕ, suc, ◌+◌, ◌-◌, ◌<◌, ◌≤◌, Bool, true, false, cond, not, eqb, ◌⊎◌, List, [], ◌∷◌, ◌++◌, sym, refl, ap, ◌∙◌, subst, ap₂, inl, inr, arith}
 use Rattle.std.proofs.lemmas.Bool.{cond_both, cond-true, cond-false, and_parts, and_from, ltb-true, eqb-true, eqb-false, eq-eqb, ne_eqb, lt-ltb, cases_order}
 use Rattle.std.proofs.lemmas.Bool.Decides.{nat_tests}
 use Rattle.retain.specs.declared.Write.{Write}
@@ -100,13 +100,13 @@ module _ (n : ℕ) (d : Store) (a : Bool) (s : ℕ) (v : Store) (h : SoundAt n d
   unfolding staged write_count
   count_is =
       ap (write_count d) commit_is ∙ count_append (front n (not a) (suc s) v) (last n (not a) (suc s) ∷ []) d
-      ∙ ap (λ m. write_count d (front n (not a) (suc s) v) + m) (cond-false (eqb (staged (slot_base n (not a) + 1 + n)) (suc s)) 0 1 last_open) ∙ omega arith
+      ∙ ap (λ m. write_count d (front n (not a) (suc s) v) + m) (cond-false _ _ _ last_open) ∙ omega arith
 
   apply_is : apply_writes d (commit_writes n d v) ≡ update staged (slot_base n (not a) + 1 + n) (suc s)
   unfolding staged apply_writes
   apply_is =
       ap (apply_writes d) commit_is ∙ apply_append (front n (not a) (suc s) v) (last n (not a) (suc s) ∷ []) d
-      ∙ cond-false (eqb (staged (slot_base n (not a) + 1 + n)) (suc s)) staged (update staged (slot_base n (not a) + 1 + n) (suc s)) last_open
+      ∙ cond-false _ _ _ last_open
 
   last_apart : (c : ℕ) → slot_base n a ≤ c → c < slot_base n a + 2 + n → c ≡ slot_base n (not a) + 1 + n → ⊥
   last_apart c l u = outside_ne (slot_base n (not a)) (slot_base n (not a) + 2 + n) c (slot_base n (not a) + 1 + n) (apart n a c l u) (omega arith) (omega arith)
@@ -180,13 +180,13 @@ module _ (n : ℕ) (d : Store) (a : Bool) (s : ℕ) (v : Store) (h : SoundAt n d
 
   in_last : (k j : ℕ) → k ≡ write_count d (front n (not a) (suc s) v) → cut_writes d (commit_writes n d v) k j ≡ update staged (slot_base n (not a) + 1 + n) j
   unfolding cut_writes
-  in_last k j e = late k j 0 (omega arith) ∙ cond-false (eqb (staged (slot_base n (not a) + 1 + n)) (suc s)) staged (update staged (slot_base n (not a) + 1 + n) j) last_open
+  in_last k j e = late k j 0 (omega arith) ∙ cond-false _ _ _ last_open
 
   past_last : (k j : ℕ) → write_count d (front n (not a) (suc s) v) < k → cut_writes d (commit_writes n d v) k j ≡ update staged (slot_base n (not a) + 1 + n) (suc s)
   unfolding cut_writes
   past_last k j l =
       late k j (suc (k - suc (write_count d (front n (not a) (suc s) v)))) (omega arith)
-      ∙ cond-false (eqb (staged (slot_base n (not a) + 1 + n)) (suc s)) staged (update staged (slot_base n (not a) + 1 + n) (suc s)) last_open
+      ∙ cond-false _ _ _ last_open
 
 -- ONE STEP: a commit that ends, and a cut one
 pub commit_step : (n : ℕ) (d u v : Store) → Held n d u → Held n (apply_writes d (commit_writes n d v)) v
@@ -217,8 +217,8 @@ factory_held n first = record {
   at = 1;
   sound = record { first = refl; second = grind (arith, nat_tests); positive = omega arith; other = inl (grind (arith, nat_tests)) };
   values = λ i l.
-      cond-false (eqb (1 + i) 0) 1 (cond (ltb (1 + i) (n + 1)) (first (1 + i - 1)) (cond (eqb (1 + i) (n + 1)) 1 0)) (ne_eqb (1 + i) 0 (λ x. omega arith))
-      ∙ cond-true (ltb (1 + i) (n + 1)) (first (1 + i - 1)) (cond (eqb (1 + i) (n + 1)) 1 0) (lt-ltb (1 + i) (n + 1) (omega arith))
+      cond-false _ _ _ (ne_eqb (1 + i) 0 (λ x. omega arith))
+      ∙ cond-true _ _ _ (lt-ltb (1 + i) (n + 1) (omega arith))
       ∙ ap first (omega arith);
 }
 

@@ -109,19 +109,19 @@ cut_late (x ∷ ws) us d k j =
     elim (eqb (d x.cell) x.value) as (λ b. (b ≡ eqb (d x.cell) x.value) → cut_writes d (x ∷ (ws ++ us)) (cond b (write_count d ws) (suc (write_count (update d x.cell x.value) ws)) + k) j ≡ cut_writes (cond b (apply_writes d ws) (apply_writes (update d x.cell x.value) ws)) us k j) [
       | true ↦ λ e. skip (write_count d ws + k) (sym e) ∙ cut_late ws us d k j
       | false ↦ λ e. ap (λ m. cut_writes d (x ∷ (ws ++ us)) m j) (suc-add (write_count (update d x.cell x.value) ws) k)
-          ∙ cond-false (eqb (d x.cell) x.value) (cut_writes d (ws ++ us) (suc (write_count (update d x.cell x.value) ws + k)) j) (cut_writes (update d x.cell x.value) (ws ++ us) (write_count (update d x.cell x.value) ws + k) j) (sym e)
+          ∙ cond-false _ _ _ (sym e)
           ∙ cut_late ws us (update d x.cell x.value) k j
     ] refl
   where
     skip : (m : ℕ) → eqb (d x.cell) x.value ≡ true → cut_writes d (x ∷ (ws ++ us)) m j ≡ cut_writes d (ws ++ us) m j
-    skip zero e = cond-true (eqb (d x.cell) x.value) (cut_writes d (ws ++ us) zero j) (update d x.cell j) e
-    skip (suc m) e = cond-true (eqb (d x.cell) x.value) (cut_writes d (ws ++ us) (suc m) j) (cut_writes (update d x.cell x.value) (ws ++ us) m j) e
+    skip zero e = cond-true _ _ _ e
+    skip (suc m) e = cond-true _ _ _ e
 
 -- a write that its cell holds already is passed over
 pub cut_skip : (x : Write) (ws : List Write) (d : Store) (m j : ℕ) → d x.cell ≡ x.value → cut_writes d (x ∷ ws) m j ≡ cut_writes d ws m j
 unfolding cut_writes
-cut_skip x ws d zero j e = cond-true (eqb (d x.cell) x.value) (cut_writes d ws zero j) (update d x.cell j) (eq-eqb (d x.cell) x.value e)
-cut_skip x ws d (suc m) j e = cond-true (eqb (d x.cell) x.value) (cut_writes d ws (suc m) j) (cut_writes (update d x.cell x.value) ws m j) (eq-eqb (d x.cell) x.value e)
+cut_skip x ws d zero j e = cond-true _ _ _ (eq-eqb (d x.cell) x.value e)
+cut_skip x ws d (suc m) j e = cond-true _ _ _ (eq-eqb (d x.cell) x.value e)
 
 -- the count is that of the writes that are done
 pub count_length : (ws : List Write) (d : Store) → write_count d ws ≡ length (effective_writes d ws)
