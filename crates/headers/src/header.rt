@@ -13,7 +13,7 @@ use lines::words::{ReadError, variable};
 pub struct Project<'a> {
     /// How many of the first variables outlast a power cut, as it is written.
     pub kept: u64,
-    /// A 1 for each variable that comes from outside.
+    /// A 1 for each variable that comes from outside, as the controller's entries take it.
     pub inputs: [u8; VARIABLES],
     /// What each variable is at first.
     pub firsts: [u16; VARIABLES],

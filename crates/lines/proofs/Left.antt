@@ -3,7 +3,7 @@ use Rattle.std.proofs.Common.{◌≡◌, ℕ, ◌+◌, List, [], ◌∷◌, ◌+
 use Rattle.std.proofs.lemmas.List.{drop_at, drop-drop}
 use Rattle.std.proofs.lemmas.Option.{none-some}
 use Rattle.lines.specs.declared.line.Line.{Line}
-use Rattle.lines.specs.Lines.{AllLeft, FirstLine, LastLine, Gives}
+use Rattle.lines.specs.Lines.{AllLeft, LastLine, Gives}
 
 -- what is left of a text is its end
 abbrev pub EndsText : List ℕ → Option Line → Type 0
