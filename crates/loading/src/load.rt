@@ -76,6 +76,7 @@ pub fn tokens_of(heap: Global, text: &str) -> Result<Vec<u16>, Failure>
     Ok(Vec::from_slice(heap, &room[..2 * count as usize])?)
 }
 
+// Like `tokens_of` but for the call and the sizes: one function over both would take a closure, and each would be as long as now.
 /// The code of the program that tokens are.
 pub fn code_of(heap: Global, tokens: &[u16]) -> Result<Vec<u16>, Failure>
     ensures coded { CodedFor tokens.now result }

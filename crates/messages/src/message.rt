@@ -12,7 +12,7 @@ use lines::line::Line;
 use loading::load::Failure;
 use std::alloc::{AllocError, Global};
 
-/// The text of a project's program, and where it begins; the whole text where the header can't be read.
+/// The text of a project's program; the whole text where its header can't be read.
 fn program_of(project: &str) -> Line<'_>
     ensures at { result.at ≡ program_start project.now }
     ensures text { result.text.now ≡ program_text project.now }
