@@ -1,5 +1,35 @@
 //! The cells of a device, modelled plainly: two slots, each a stamp, values and the stamp again, written one cell after another.
 
+/// Where the power goes in a save: at this write, which leaves this junk.
+#[derive(Clone, Copy)]
+pub struct Cut {
+    pub write: u64,
+    pub junk: u64,
+}
+
+/// The writes of a save so far, and where the power goes if it does.
+#[derive(Drop)]
+struct Save {
+    writes: u64,
+    cut: Option<Cut>,
+}
+
+impl Save {
+    /// Writes a number to a cell that holds another one.
+    fn write(&mut self, cell: &mut u64, number: u64) {
+        if *cell == number {
+            return;
+        }
+        let write = self.writes;
+        self.writes = write.saturating_add(1);
+        *cell = match self.cut {
+            Some(cut) if cut.write == write => cut.junk,
+            Some(cut) if cut.write < write => *cell,
+            _ => number,
+        };
+    }
+}
+
 /// A stamp, values and the stamp again.
 #[derive(Clone, Copy)]
 struct Slot {
@@ -9,46 +39,16 @@ struct Slot {
 }
 
 impl Slot {
-    fn valid(&self) -> bool {
-        self.first == self.last && self.first != 0
-    }
-}
+    /// No stamp, and nothing kept.
+    const BLANK: Slot = Slot {
+        first: 0,
+        values: [0; 64],
+        last: 0,
+    };
 
-/// How long the power lasts: at the write `until` it goes and leaves junk.
-#[derive(Clone, Copy)]
-pub struct Power {
-    done: u64,
-    until: u64,
-    junk: u64,
-    gone: bool,
-}
-
-impl Power {
-    /// Power that lasts.
-    fn whole() -> Power {
-        Power::until(u64::MAX, 0)
-    }
-
-    fn until(write: u64, junk: u64) -> Power {
-        Power {
-            done: 0,
-            until: write,
-            junk,
-            gone: false,
-        }
-    }
-
-    /// What a cell holds once a number was to be written to it.
-    fn write(&mut self, cell: u64, number: u64) -> u64 {
-        if self.gone || cell == number {
-            return cell;
-        }
-        if self.done == self.until {
-            self.gone = true;
-            return self.junk;
-        }
-        self.done = self.done.saturating_add(1);
-        number
+    /// The stamp of a slot that is valid: both are the same, and not 0.
+    fn stamp(&self) -> Option<u64> {
+        (self.first == self.last && self.first != 0).then_some(self.first)
     }
 }
 
@@ -64,27 +64,21 @@ impl Cells {
     pub(crate) fn new(kept: usize, firsts: &[u16; 64]) -> Cells {
         let mut slot = Slot {
             first: 1,
-            values: [0; 64],
             last: 1,
+            ..Slot::BLANK
         };
-        for i in 0..kept.min(64) {
-            slot.values[i] = firsts[i] as u64;
+        for (cell, value) in slot.values.iter_mut().zip(firsts).take(kept) {
+            *cell = u64::from(*value);
         }
-        let blank = Slot {
-            first: 0,
-            values: [0; 64],
-            last: 0,
-        };
         Cells {
             kept,
-            slots: [slot, blank],
+            slots: [slot, Slot::BLANK],
         }
     }
 
     /// Is the second slot the current one?
     fn second(&self) -> bool {
-        self.slots[1].valid()
-            && (!self.slots[0].valid() || self.slots[0].first < self.slots[1].first)
+        self.slots[0].stamp() < self.slots[1].stamp()
     }
 
     /// The kept values, 0 past them.
@@ -92,28 +86,18 @@ impl Cells {
         self.slots[self.second() as usize].values
     }
 
-    /// Saves while there is power; answers how many writes were done.
-    fn save(&mut self, values: &[u16; 64], power: Power) -> u64 {
-        let mut power = power;
+    /// Saves values, while there is power; answers how many writes that takes.
+    pub(crate) fn save(&mut self, values: &[u16; 64], cut: Option<Cut>) -> u64 {
         let second = self.second();
         let stamp = self.slots[second as usize].first.wrapping_add(1);
+        let mut save = Save { writes: 0, cut };
         let mut slot = self.slots[!second as usize];
-        slot.first = power.write(slot.first, stamp);
-        for i in 0..self.kept.min(64) {
-            slot.values[i] = power.write(slot.values[i], values[i] as u64);
+        save.write(&mut slot.first, stamp);
+        for (cell, value) in slot.values.iter_mut().zip(values).take(self.kept) {
+            save.write(cell, u64::from(*value));
         }
-        slot.last = power.write(slot.last, stamp);
+        save.write(&mut slot.last, stamp);
         self.slots[!second as usize] = slot;
-        power.done
-    }
-
-    /// A save that ends; answers how many writes it took.
-    pub(crate) fn commit(&mut self, values: &[u16; 64]) -> u64 {
-        self.save(values, Power::whole())
-    }
-
-    /// A save that is cut at a write.
-    pub(crate) fn cut(&mut self, values: &[u16; 64], at: u64, junk: u64) {
-        self.save(values, Power::until(at, junk));
+        save.writes
     }
 }

@@ -1,20 +1,16 @@
 //! Which rows of tokens are programs, written from docs/LANGUAGE.md: what may come next is kept as a pile of goals.
-use crate::token::Token;
+use crate::token::{Symbol, Token};
 use std::alloc::{AllocError, Global};
 
 /// What a program still has to have.
 #[derive(Clone, Copy)]
 enum Goal {
+    /// This mark or word.
+    Symbol(Symbol),
+    /// Any number.
     Number,
+    /// Any name.
     Name,
-    Close,
-    Becomes,
-    Semicolon,
-    Comma,
-    Then,
-    Else,
-    Times,
-    End,
     /// A number, a name, an expression in brackets, or `not` before one of these.
     Operand,
     /// Operators with operands, or none.
@@ -23,133 +19,94 @@ enum Goal {
     Statements,
 }
 
+/// What follows an opening bracket, the last first.
+const BRACKETS: [Goal; 3] = [Goal::Symbol(Symbol::Close), Goal::Operations, Goal::Operand];
+
+/// What follows an operator.
+const OPERATION: [Goal; 2] = [Goal::Operations, Goal::Operand];
+
+/// What follows the name at the beginning of an assignment.
+const ASSIGNMENT: [Goal; 5] = [
+    Goal::Statements,
+    Goal::Symbol(Symbol::Semicolon),
+    Goal::Operations,
+    Goal::Operand,
+    Goal::Symbol(Symbol::Becomes),
+];
+
+/// What follows `if`.
+const CHOICE: [Goal; 9] = [
+    Goal::Statements,
+    Goal::Symbol(Symbol::Semicolon),
+    Goal::Symbol(Symbol::End),
+    Goal::Statements,
+    Goal::Symbol(Symbol::Else),
+    Goal::Statements,
+    Goal::Symbol(Symbol::Then),
+    Goal::Operations,
+    Goal::Operand,
+];
+
+/// What follows `repeat`.
+const REPETITION: [Goal; 6] = [
+    Goal::Statements,
+    Goal::Symbol(Symbol::Semicolon),
+    Goal::Symbol(Symbol::End),
+    Goal::Statements,
+    Goal::Symbol(Symbol::Times),
+    Goal::Number,
+];
+
+/// What follows `delay`.
+const TIMER: [Goal; 10] = [
+    Goal::Statements,
+    Goal::Symbol(Symbol::Semicolon),
+    Goal::Number,
+    Goal::Symbol(Symbol::Comma),
+    Goal::Operations,
+    Goal::Operand,
+    Goal::Symbol(Symbol::Comma),
+    Goal::Name,
+    Goal::Symbol(Symbol::Comma),
+    Goal::Name,
+];
+
 impl Goal {
     /// May there be nothing of it?
-    fn optional(self) -> bool {
+    fn is_optional(self) -> bool {
         matches!(self, Goal::Operations | Goal::Statements)
     }
 
-    /// Is it this token, and no more?
-    fn is(self, token: Token) -> bool {
-        match self {
-            Goal::Number => matches!(token, Token::Number(_)),
-            Goal::Name => matches!(token, Token::Name(_)),
-            Goal::Close => matches!(token, Token::Close),
-            Goal::Becomes => matches!(token, Token::Becomes),
-            Goal::Semicolon => matches!(token, Token::Semicolon),
-            Goal::Comma => matches!(token, Token::Comma),
-            Goal::Then => matches!(token, Token::Then),
-            Goal::Else => matches!(token, Token::Else),
-            Goal::Times => matches!(token, Token::Times),
-            Goal::End => matches!(token, Token::End),
-            Goal::Operand | Goal::Operations | Goal::Statements => false,
+    /// What follows a token that it begins with, the last first; none if it begins with another one.
+    fn after(self, token: Token) -> Option<&'static [Goal]> {
+        match (self, token) {
+            (Goal::Number | Goal::Operand, Token::Number(_)) => Some(&[]),
+            (Goal::Name | Goal::Operand, Token::Name(_)) => Some(&[]),
+            (Goal::Symbol(wanted), Token::Symbol(symbol)) if wanted == symbol => Some(&[]),
+            (Goal::Operand, Token::Symbol(Symbol::Not)) => Some(&[Goal::Operand]),
+            (Goal::Operand, Token::Symbol(Symbol::Open)) => Some(&BRACKETS),
+            (Goal::Operations, Token::Operator(_)) => Some(&OPERATION),
+            (Goal::Statements, Token::Name(_)) => Some(&ASSIGNMENT),
+            (Goal::Statements, Token::Symbol(Symbol::If)) => Some(&CHOICE),
+            (Goal::Statements, Token::Symbol(Symbol::Repeat)) => Some(&REPETITION),
+            (Goal::Statements, Token::Symbol(Symbol::Delay)) => Some(&TIMER),
+            _ => None,
         }
-    }
-}
-
-/// What follows a token that begins an operand, the last first; none if it does not.
-fn after_operand(token: Token) -> Option<&'static [Goal]> {
-    match token {
-        Token::Number(_) | Token::Name(_) => Some(&[]),
-        Token::Not => Some(&[Goal::Operand]),
-        Token::Open => Some(&[Goal::Close, Goal::Operations, Goal::Operand]),
-        _ => None,
-    }
-}
-
-/// What follows a token that begins an operation.
-fn after_operator(token: Token) -> Option<&'static [Goal]> {
-    match token {
-        Token::Operator(_) => Some(&[Goal::Operations, Goal::Operand]),
-        _ => None,
-    }
-}
-
-const ASSIGNMENT: [Goal; 5] = [
-    Goal::Statements,
-    Goal::Semicolon,
-    Goal::Operations,
-    Goal::Operand,
-    Goal::Becomes,
-];
-
-const CHOICE: [Goal; 9] = [
-    Goal::Statements,
-    Goal::Semicolon,
-    Goal::End,
-    Goal::Statements,
-    Goal::Else,
-    Goal::Statements,
-    Goal::Then,
-    Goal::Operations,
-    Goal::Operand,
-];
-
-const REPETITION: [Goal; 6] = [
-    Goal::Statements,
-    Goal::Semicolon,
-    Goal::End,
-    Goal::Statements,
-    Goal::Times,
-    Goal::Number,
-];
-
-const TIMER: [Goal; 10] = [
-    Goal::Statements,
-    Goal::Semicolon,
-    Goal::Number,
-    Goal::Comma,
-    Goal::Operations,
-    Goal::Operand,
-    Goal::Comma,
-    Goal::Name,
-    Goal::Comma,
-    Goal::Name,
-];
-
-/// What follows a token that begins a statement.
-fn after_start(token: Token) -> Option<&'static [Goal]> {
-    match token {
-        Token::Name(_) => Some(&ASSIGNMENT),
-        Token::If => Some(&CHOICE),
-        Token::Repeat => Some(&REPETITION),
-        Token::Delay => Some(&TIMER),
-        _ => None,
-    }
-}
-
-/// What follows a token that begins a goal.
-fn after(goal: Goal, token: Token) -> Option<&'static [Goal]> {
-    match goal {
-        Goal::Operand => after_operand(token),
-        Goal::Operations => after_operator(token),
-        Goal::Statements => after_start(token),
-        _ => { if goal.is(token) { Some(&[]) } else { None } }
     }
 }
 
 /// Goes on by a token; `false` if no program does.
 fn goes_on(goals: &mut Vec<Goal>, token: Token) -> Result<bool, AllocError> {
     while let Some(goal) = goals.pop() {
-        if let Some(more) = after(goal, token) {
+        if let Some(more) = goal.after(token) {
             goals.extend_from_slice(more)?;
             return Ok(true);
         }
-        if !goal.optional() {
+        if !goal.is_optional() {
             return Ok(false);
         }
     }
     Ok(false)
-}
-
-/// May a program end here?
-fn may_end(goals: &[Goal]) -> bool {
-    for goal in goals {
-        if !goal.optional() {
-            return false;
-        }
-    }
-    true
 }
 
 /// The first token at which no program goes on so, or the number of tokens where they stop too early; none if they are a program.
@@ -160,9 +117,6 @@ pub(crate) fn misfit(heap: Global, tokens: &[Token]) -> Result<Option<usize>, Al
             return Ok(Some(place));
         }
     }
-    if may_end(goals.as_slice()) {
-        Ok(None)
-    } else {
-        Ok(Some(tokens.len()))
-    }
+    let may_end = goals.iter().all(|goal| goal.is_optional());
+    Ok((!may_end).then_some(tokens.len()))
 }

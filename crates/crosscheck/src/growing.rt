@@ -1,23 +1,25 @@
 //! Random programs, as trees: plain ones, and some that come near a limit or pass it.
-use crate::needs::of_stmt;
 use crate::random::Random;
-use crate::tree::{Expr, Stmt};
+use crate::tree::{Delay, Expr, Stmt};
 use base::Op;
-use std::alloc::{AllocError, Global};
+use std::alloc::AllocError;
 
-fn operator(random: &mut Random) -> Op {
-    match random.below(11) {
-        0 => Op::Add,
-        1..=3 => Op::Sub,
-        4 => Op::Mul,
-        5..=6 => Op::Div,
-        7 => Op::Less,
-        8 => Op::Equal,
-        9 => Op::And,
-        _ => Op::Or,
-    }
-}
+/// The operators, some of them more often than the others.
+const OPERATORS: [Op; 11] = [
+    Op::Add,
+    Op::Sub,
+    Op::Sub,
+    Op::Sub,
+    Op::Mul,
+    Op::Div,
+    Op::Div,
+    Op::Less,
+    Op::Equal,
+    Op::And,
+    Op::Or,
+];
 
+/// A number or a variable.
 fn leaf(random: &mut Random) -> Expr {
     if random.chance(35) {
         Expr::Literal(random.word())
@@ -27,56 +29,30 @@ fn leaf(random: &mut Random) -> Expr {
 }
 
 /// An expression in which at most so many operations stand one in another.
-fn expr(random: &mut Random, heap: Global, fuel: u8) -> Result<Expr, AllocError> {
+fn expr(random: &mut Random, fuel: u8) -> Result<Expr, AllocError> {
     if fuel == 0 || random.chance(25) {
         return Ok(leaf(random));
     }
-    let left = expr(random, heap, fuel - 1)?;
+    let left = expr(random, fuel - 1)?;
     if random.chance(15) {
-        return Ok(Expr::Not(Box::new(heap, left)?));
+        return left.negated(random.heap);
     }
-    let right = expr(random, heap, fuel - 1)?;
-    join(heap, operator(random), left, right)
-}
-
-fn join(heap: Global, op: Op, left: Expr, right: Expr) -> Result<Expr, AllocError> {
-    let left = Box::new(heap, left)?;
-    let right = Box::new(heap, right)?;
-    Ok(Expr::Binary(op, left, right))
-}
-
-fn then(heap: Global, first: Stmt, second: Stmt) -> Result<Stmt, AllocError> {
-    let first = Box::new(heap, first)?;
-    let second = Box::new(heap, second)?;
-    Ok(Stmt::Seq(first, second))
-}
-
-fn repeat(heap: Global, rounds: u16, body: Stmt) -> Result<Stmt, AllocError> {
-    Ok(Stmt::Repeat(rounds, Box::new(heap, body)?))
-}
-
-fn branch(
-    random: &mut Random,
-    heap: Global,
-    first: Stmt,
-    second: Stmt,
-) -> Result<Stmt, AllocError> {
-    let condition = expr(random, heap, 2)?;
-    let first = Box::new(heap, first)?;
-    let second = Box::new(heap, second)?;
-    Ok(Stmt::Branch(condition, first, second))
+    let right = expr(random, fuel - 1)?;
+    Expr::binary(random.heap, random.pick(&OPERATORS), left, right)
 }
 
 /// An assignment or a delay.
-fn simple(random: &mut Random, heap: Global) -> Result<Stmt, AllocError> {
+fn simple(random: &mut Random) -> Result<Stmt, AllocError> {
     if random.chance(80) {
         let variable = random.variable();
-        return Ok(Stmt::Assign(variable, expr(random, heap, 4)?));
+        return Ok(Stmt::Assign(variable, expr(random, 4)?));
     }
-    let output = random.variable();
-    let counter = random.variable();
-    let condition = expr(random, heap, 2)?;
-    Ok(Stmt::Delay(output, counter, condition, random.word()))
+    Ok(Stmt::Delay(Delay {
+        output: random.variable(),
+        counter: random.variable(),
+        condition: expr(random, 2)?,
+        length: random.word(),
+    }))
 }
 
 /// How many rounds: mostly few, seldom any word.
@@ -89,83 +65,80 @@ fn rounds(random: &mut Random) -> u16 {
 }
 
 /// A choice between statements, or a repetition of the first ones.
-fn compound(
-    random: &mut Random,
-    heap: Global,
-    first: Stmt,
-    second: Stmt,
-) -> Result<Stmt, AllocError> {
+fn compound(random: &mut Random, first: Stmt, second: Stmt) -> Result<Stmt, AllocError> {
     if random.chance(60) {
-        branch(random, heap, first, second)
+        let condition = expr(random, 2)?;
+        Stmt::branch(random.heap, condition, first, second)
     } else {
-        repeat(heap, rounds(random), first)
+        first.repeated(random.heap, rounds(random))
     }
 }
 
 /// Up to five statements, with others inside them.
-fn statements(random: &mut Random, heap: Global, fuel: u8) -> Result<Stmt, AllocError> {
+fn statements(random: &mut Random, fuel: u8) -> Result<Stmt, AllocError> {
     let mut all = Stmt::Skip;
     for _ in 0..random.below(6) {
-        let mut next = simple(random, heap)?;
+        let mut next = simple(random)?;
         if fuel > 0 && random.chance(30) {
-            let inner = statements(random, heap, fuel - 1)?;
-            next = compound(random, heap, inner, next)?;
+            let inner = statements(random, fuel - 1)?;
+            next = compound(random, inner, next)?;
         }
-        all = then(heap, all, next)?;
+        all = all.then(random.heap, next)?;
     }
     Ok(all)
 }
 
 /// About as many values at a time as there may be.
-fn tall(random: &mut Random, heap: Global) -> Result<Stmt, AllocError> {
+fn tall(random: &mut Random) -> Result<Stmt, AllocError> {
     let mut all = leaf(random);
     for _ in 0..28 + random.below(6) {
         let first = leaf(random);
-        all = join(heap, operator(random), first, all)?;
+        all = Expr::binary(random.heap, random.pick(&OPERATORS), first, all)?;
     }
     Ok(Stmt::Assign(random.variable(), all))
 }
 
 /// About as many repetitions one in another as there may be.
-fn deep(random: &mut Random, heap: Global) -> Result<Stmt, AllocError> {
-    let mut all = simple(random, heap)?;
+fn deep(random: &mut Random) -> Result<Stmt, AllocError> {
+    let mut all = simple(random)?;
     for _ in 0..7 + random.below(3) {
-        all = repeat(heap, rounds(random), all)?;
+        all = all.repeated(random.heap, rounds(random))?;
     }
     Ok(all)
 }
 
 /// About as many instructions as there may be: as many rounds as fit, one more or one fewer, and a few statements.
-fn dear(random: &mut Random, heap: Global) -> Result<Stmt, AllocError> {
-    let body = statements(random, heap, 1)?;
-    let round = of_stmt(&body).cost.saturating_add(1);
+fn dear(random: &mut Random) -> Result<Stmt, AllocError> {
+    let body = statements(random, 1)?;
+    let round = body.needs().cost.saturating_add(1);
     let rounds = (20000 / round.max(1))
         .saturating_add(random.below(3))
         .saturating_sub(1);
-    let mut all = repeat(heap, rounds.min(65535) as u16, body)?;
+    let mut all = body.repeated(random.heap, rounds.min(65535) as u16)?;
     for _ in 0..random.below(6) {
-        all = then(heap, all, simple(random, heap)?)?;
+        let next = simple(random)?;
+        all = all.then(random.heap, next)?;
     }
     Ok(all)
 }
 
 /// About as many tokens as there may be, at four to an assignment.
-fn long(random: &mut Random, heap: Global) -> Result<Stmt, AllocError> {
-    let mut all = simple(random, heap)?;
+fn long(random: &mut Random) -> Result<Stmt, AllocError> {
+    let mut all = simple(random)?;
     for _ in 0..1017 + random.below(7) {
         let next = Stmt::Assign(random.variable(), leaf(random));
-        all = then(heap, all, next)?;
+        all = all.then(random.heap, next)?;
     }
     Ok(all)
 }
 
 /// A program.
-pub(crate) fn grow(random: &mut Random, heap: Global) -> Result<Stmt, AllocError> {
+pub(crate) fn grow(random: &mut Random) -> Result<Stmt, AllocError> {
     match random.below(200) {
-        0..=3 => tall(random, heap),
-        4..=7 => deep(random, heap),
-        8..=10 => dear(random, heap),
-        11 => long(random, heap),
-        _ => statements(random, heap, 3),
+        0..=3 => tall(random),
+        4..=7 => deep(random),
+        8..=10 => dear(random),
+        11 => long(random),
+        _ => statements(random, 3),
     }
 }

@@ -6,13 +6,14 @@ mod cells;
 mod grammar;
 mod growing;
 mod header;
-mod line_texts;
 mod meaning;
 mod needs;
 mod program;
 mod random;
+mod refusal;
 mod row;
 mod script;
+mod spelling;
 mod spoiling;
 mod story;
 mod tally;
@@ -20,9 +21,9 @@ mod telling;
 mod token;
 mod tree;
 mod trouble;
-mod writing;
+mod variable;
 
-use anyhow::anyhow;
+use anyhow::ensure;
 use project::play::play;
 use row::Row;
 use std::io;
@@ -59,9 +60,7 @@ fn agrees(rt: &HostRuntime, seed: u64, tally: &mut Tally) -> io::Result<bool> {
 fn main(rt: HostRuntime) -> anyhow::Result<()> {
     let mut tally = Tally::new();
     for seed in 0..ROWS {
-        if !agrees(&rt, seed, &mut tally)? {
-            return Err(anyhow!("the answers differ"));
-        }
+        ensure!(agrees(&rt, seed, &mut tally)?, "the answers differ");
     }
     println!(rt; "{ROWS} rows agreed")?;
     tally.print(&rt)?;

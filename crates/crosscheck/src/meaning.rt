@@ -1,5 +1,6 @@
 //! What a program means, written from docs/LANGUAGE.md over this crate's own trees: words of 16 bits that go round.
-use crate::tree::{Expr, Stmt};
+use crate::tree::{Delay, Expr, Stmt};
+use crate::variable::Variable;
 use base::Op;
 
 /// What a run works on: the variables, and whether the lamp is lit.
@@ -10,25 +11,23 @@ pub struct Values {
 }
 
 impl Values {
-    fn get(&self, variable: u8) -> u16 {
-        self.vars[variable as usize % 64]
+    /// The value of a variable.
+    fn get(&self, variable: Variable) -> u16 {
+        self.vars[variable.index()]
     }
 
-    fn set(&mut self, variable: u8, value: u16) {
-        self.vars[variable as usize % 64] = value;
+    /// Gives a variable a value.
+    fn set(&mut self, variable: Variable, value: u16) {
+        self.vars[variable.index()] = value;
     }
 
     /// A quotient; by 0 it is 0 and lights the lamp.
     fn quotient(&mut self, left: u16, right: u16) -> u16 {
-        match left.checked_div(right) {
-            Some(value) => value,
-            None => {
-                self.lamp = true;
-                0
-            }
-        }
+        self.lamp |= right == 0;
+        left.checked_div(right).unwrap_or(0)
     }
 
+    /// What an operation makes of two values.
     fn operate(&mut self, op: Op, left: u16, right: u16) -> u16 {
         match op {
             Op::Add => left.wrapping_add(right),
@@ -57,14 +56,17 @@ impl Values {
     }
 
     /// A delay counts while its condition is true; the output is set last.
-    fn delay(&mut self, output: u8, counter: u8, on: bool, length: u16, elapsed: u16) {
+    fn delay(&mut self, delay: &Delay, elapsed: u16) {
+        let on = self.value(&delay.condition) != 0;
         let count = if on {
-            self.get(counter).saturating_add(elapsed).min(length)
+            self.get(delay.counter)
+                .saturating_add(elapsed)
+                .min(delay.length)
         } else {
             0
         };
-        self.set(counter, count);
-        self.set(output, (on && count == length) as u16);
+        self.set(delay.counter, count);
+        self.set(delay.output, (on && count == delay.length) as u16);
     }
 
     /// One run of a statement, so long after the last one.
@@ -91,10 +93,7 @@ impl Values {
                     self.run(body, elapsed);
                 }
             }
-            Stmt::Delay(output, counter, condition, length) => {
-                let on = self.value(condition) != 0;
-                self.delay(*output, *counter, on, *length, elapsed);
-            }
+            Stmt::Delay(delay) => self.delay(delay, elapsed),
         }
     }
 }

@@ -1,8 +1,9 @@
 //! What a program needs, counted as docs/LANGUAGE.md says, and the first limit that it passes.
+use crate::refusal::Limit;
 use crate::tree::{Expr, Stmt};
 
 /// The most instructions of a run, values at a time, and repetitions one in another.
-#[derive(Clone, Copy)]
+#[derive(Clone, Copy, Default)]
 pub struct Needs {
     pub cost: u64,
     pub height: u64,
@@ -10,14 +11,21 @@ pub struct Needs {
 }
 
 impl Needs {
+    /// What a number or a name needs.
+    const VALUE: Needs = Needs {
+        cost: 1,
+        height: 1,
+        depth: 0,
+    };
+
     /// Which limit is passed, if any.
-    pub(crate) fn limit(self) -> Option<u64> {
+    pub(crate) fn limit(self) -> Option<Limit> {
         if self.cost > 20000 {
-            Some(0)
+            Some(Limit::Cost)
         } else if self.height > 32 {
-            Some(1)
+            Some(Limit::Height)
         } else if self.depth > 8 {
-            Some(2)
+            Some(Limit::Depth)
         } else {
             None
         }
@@ -68,39 +76,30 @@ impl Needs {
     }
 }
 
-/// Nothing at all.
-const NOTHING: Needs = Needs {
-    cost: 0,
-    height: 0,
-    depth: 0,
-};
-
-/// A number or a name.
-const ONE: Needs = Needs {
-    cost: 1,
-    height: 1,
-    depth: 0,
-};
-
-pub(crate) fn of_expr(expr: &Expr) -> Needs {
-    match expr {
-        Expr::Literal(_) => ONE,
-        Expr::Variable(_) => ONE,
-        Expr::Not(x) => of_expr(x).and_one(),
-        Expr::Binary(_, x, y) => of_expr(x).and(of_expr(y).over_one()).and_one(),
+impl Expr {
+    /// What it needs to be worked out.
+    fn needs(&self) -> Needs {
+        match self {
+            Expr::Literal(_) | Expr::Variable(_) => Needs::VALUE,
+            Expr::Not(x) => x.needs().and_one(),
+            Expr::Binary(_, x, y) => x.needs().and(y.needs().over_one()).and_one(),
+        }
     }
 }
 
-pub(crate) fn of_stmt(stmt: &Stmt) -> Needs {
-    match stmt {
-        Stmt::Skip => NOTHING,
-        Stmt::Seq(first, second) => of_stmt(first).and(of_stmt(second)),
-        Stmt::Assign(_, expr) => of_expr(expr).and_one(),
-        Stmt::Branch(condition, first, second) => {
-            let either = of_stmt(first).or(of_stmt(second));
-            of_expr(condition).and_one().and(either)
+impl Stmt {
+    /// What it needs to be run.
+    pub(crate) fn needs(&self) -> Needs {
+        match self {
+            Stmt::Skip => Needs::default(),
+            Stmt::Seq(first, second) => first.needs().and(second.needs()),
+            Stmt::Assign(_, expr) => expr.needs().and_one(),
+            Stmt::Branch(condition, first, second) => {
+                let either = first.needs().or(second.needs());
+                condition.needs().and_one().and(either)
+            }
+            Stmt::Repeat(rounds, body) => body.needs().repeated(*rounds),
+            Stmt::Delay(delay) => delay.condition.needs().and_one(),
         }
-        Stmt::Repeat(rounds, body) => of_stmt(body).repeated(*rounds),
-        Stmt::Delay(_, _, condition, _) => of_expr(condition).and_one(),
     }
 }

@@ -1,64 +1,66 @@
 //! A random program's text, with what is known of it: its tree, its tokens, and where it goes wrong if it does.
-use crate::blanks::between;
+use crate::blanks::Writer;
 use crate::grammar::misfit;
 use crate::growing::grow;
-use crate::needs::of_stmt;
 use crate::random::Random;
+use crate::refusal::Refusal;
+use crate::spelling::Spelling;
 use crate::spoiling::spoil;
-use crate::token::Token;
+use crate::token::{Symbol, Token};
 use crate::tree::Stmt;
-use crate::writing::write_stmt;
 use std::alloc::{AllocError, Global};
 
 /// No more tokens are taken.
 const MOST_TOKENS: usize = 4096;
 
+/// A program's tree, and the text that it is written as or, where it is refused, that this led to.
 #[derive(Drop)]
 pub struct Program {
     pub stmt: Stmt,
     pub text: String,
-    /// Why it is refused: a number of the list of refusals, and a place.
-    pub refused: Option<(u64, u64)>,
+    /// Why it is refused, if it is.
+    pub refused: Option<Refusal>,
 }
 
-/// A token behind another one, and a blank between them where one is needed or fancied.
-fn push_token(
-    text: &mut String,
-    heap: Global,
-    random: &mut Random,
-    parted: bool,
-    token: Token,
-) -> Result<usize, AllocError> {
-    if parted || random.chance(40) {
-        text.push_str(between(random))?;
-    }
-    let place = text.len();
-    if matches!(token, Token::Number(_)) && random.chance(5) {
-        text.push_str("00")?;
-    }
-    let word = format!(in heap; "{token}")?;
-    text.push_str(word.as_str())?;
-    Ok(place)
-}
-
-/// Writes tokens with blanks between them; answers the place of the first that is none, or is one too many.
-fn write_text(
-    text: &mut String,
-    heap: Global,
-    random: &mut Random,
-    tokens: &[Token],
-) -> Result<Option<usize>, AllocError> {
-    let mut wrong = None;
-    let mut before = Token::Semicolon;
-    for (i, token) in tokens.iter().enumerate() {
-        let parted = before.is_wrong() || token.is_wrong() || before.apart() && token.apart();
-        let place = push_token(text, heap, random, parted, *token)?;
-        if wrong.is_none() && (token.is_wrong() || i == MOST_TOKENS) {
-            wrong = Some(place);
+impl Writer<'_> {
+    /// A token behind another one, and a blank between them where one is needed or fancied; answers its place.
+    fn token(&mut self, parted: bool, token: Token) -> Result<usize, AllocError> {
+        if parted || self.random.chance(40) {
+            self.text.push_str(self.random.between())?;
         }
-        before = *token;
+        let place = self.text.len();
+        if matches!(token, Token::Number(_)) && self.random.chance(5) {
+            self.text.push_str("00")?;
+        }
+        write!(self.text, "{token}")?;
+        Ok(place)
     }
-    Ok(wrong)
+
+    /// Tokens with blanks between them; answers the place of the first that is none, or is one too many.
+    fn program(&mut self, tokens: &[Token]) -> Result<Option<usize>, AllocError> {
+        let mut wrong = None;
+        let mut before = Token::Symbol(Symbol::Semicolon);
+        for (i, token) in tokens.iter().enumerate() {
+            let place = self.token(before.parts_from(*token), *token)?;
+            if wrong.is_none() && (token.is_wrong() || i == MOST_TOKENS) {
+                wrong = Some(place);
+            }
+            before = *token;
+        }
+        Ok(wrong)
+    }
+}
+
+/// The tokens of a tree; a few of them are spoiled.
+fn tokens_of(random: &mut Random, stmt: &Stmt) -> Result<Vec<Token>, AllocError> {
+    let mut spelling = Spelling::new(random);
+    spelling.stmt(stmt)?;
+    let tokens = spelling.into_tokens();
+    if random.chance(8) {
+        spoil(random, tokens)
+    } else {
+        Ok(tokens)
+    }
 }
 
 /// Why a program is refused, by the first check that fails.
@@ -67,49 +69,28 @@ fn refusal(
     wrong: Option<usize>,
     tokens: &[Token],
     stmt: &Stmt,
-) -> Result<Option<(u64, u64)>, AllocError> {
+) -> Result<Option<Refusal>, AllocError> {
     if let Some(place) = wrong {
-        return Ok(Some((1, place as u64)));
+        return Ok(Some(Refusal::Text(place)));
     }
     if let Some(place) = misfit(heap, tokens)? {
-        return Ok(Some((2, place as u64)));
+        return Ok(Some(Refusal::Grammar(place)));
     }
-    match of_stmt(stmt).limit() {
-        Some(which) => Ok(Some((3, which))),
-        None => Ok(None),
-    }
+    Ok(stmt.needs().limit().map(Refusal::Limit))
 }
 
-/// The tokens of a tree; a few of them are spoiled.
-fn tokens_of(random: &mut Random, heap: Global, stmt: &Stmt) -> Result<Vec<Token>, AllocError> {
-    let mut tokens = Vec::new(heap);
-    write_stmt(&mut tokens, random, stmt)?;
-    if random.chance(8) {
-        spoil(tokens, heap, random)
-    } else {
-        Ok(tokens)
+impl Program {
+    /// A program that can most often be read.
+    pub(crate) fn random(random: &mut Random) -> Result<Program, AllocError> {
+        let heap = random.heap;
+        let stmt = grow(random)?;
+        let tokens = tokens_of(random, &stmt)?;
+        let mut out = Writer::new(random);
+        let wrong = out.program(tokens.as_slice())?;
+        Ok(Program {
+            refused: refusal(heap, wrong, tokens.as_slice(), &stmt)?,
+            text: out.into_text(),
+            stmt,
+        })
     }
-}
-
-/// The text of a tree, if it is not spoiled, and why it is refused.
-fn text_of(
-    random: &mut Random,
-    heap: Global,
-    stmt: &Stmt,
-) -> Result<(String, Option<(u64, u64)>), AllocError> {
-    let tokens = tokens_of(random, heap, stmt)?;
-    let mut text = String::new(heap);
-    let wrong = write_text(&mut text, heap, random, tokens.as_slice())?;
-    let refused = refusal(heap, wrong, tokens.as_slice(), stmt)?;
-    Ok((text, refused))
-}
-
-pub(crate) fn random_program(random: &mut Random, heap: Global) -> Result<Program, AllocError> {
-    let stmt = grow(random, heap)?;
-    let (text, refused) = text_of(random, heap, &stmt)?;
-    Ok(Program {
-        stmt,
-        text,
-        refused,
-    })
 }

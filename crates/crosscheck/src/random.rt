@@ -1,16 +1,22 @@
-//! Random numbers from a seed: the same seed gives the same row everywhere.
-ghost use Rattle.std.specs.Prelude.{◌<◌, max};
+//! Random numbers from a seed, and the memory for what is made with them: the same seed gives the same row everywhere.
+ghost use Rattle.std.specs.Prelude.{◌<◌, max, length};
+
+use crate::variable::Variable;
+use std::alloc::Global;
 
 /// A generator of the kind xorshift, whose state is never 0.
-#[derive(Clone, Copy)]
+#[derive(Drop)]
 pub struct Random {
     state: u64,
+    pub heap: Global,
 }
 
 impl Random {
-    pub(crate) fn new(seed: u64) -> Random {
+    /// The generator of a seed.
+    pub(crate) fn new(heap: Global, seed: u64) -> Random {
         Random {
             state: seed.wrapping_mul(0x9e37_79b9_7f4a_7c15) | 1,
+            heap,
         }
     }
 
@@ -24,7 +30,7 @@ impl Random {
         x.wrapping_mul(0x2545_f491_4f6c_dd1d)
     }
 
-    /// A number below a bound; 0 below 0.
+    /// A number below a bound; 0 below 0. Cases that draw on are a `match` over it, and values are picked from tables.
     pub(crate) fn below(&mut self, bound: u64) -> u64
         ensures { result < max bound 1 }
     {
@@ -34,6 +40,20 @@ impl Random {
     /// Is it so, in so many cases of a hundred?
     pub(crate) fn chance(&mut self, percent: u64) -> bool {
         self.below(100) < percent
+    }
+
+    /// One entry of a table, each as often as the others.
+    pub(crate) fn pick<T: Copy>(&mut self, table: &[T]) -> T
+        requires { 0 < length table.now }
+    {
+        table[self.below(table.len() as u64) as usize]
+    }
+
+    /// One of a few, each in one of so many cases, and in the other cases the usual one.
+    pub(crate) fn seldom<T: Copy>(&mut self, few: &[T], cases: u64, usual: T) -> T {
+        few.get(self.below(cases) as usize)
+            .copied()
+            .unwrap_or(usual)
     }
 
     /// A word, most often a small one or one near a bound.
@@ -48,11 +68,11 @@ impl Random {
     }
 
     /// A variable, most often one of the first six.
-    pub(crate) fn variable(&mut self) -> u8 {
+    pub(crate) fn variable(&mut self) -> Variable {
         if self.chance(85) {
-            self.below(6) as u8
+            Variable(self.below(6) as u8)
         } else {
-            self.below(64) as u8
+            Variable(self.below(64) as u8)
         }
     }
 }

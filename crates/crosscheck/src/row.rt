@@ -1,19 +1,19 @@
 //! A row: a project and a script, played, and followed by the plain story.
-use crate::header::{Header, random_header};
-use crate::program::{Program, random_program};
+use crate::header::Header;
+use crate::program::Program;
 use crate::random::Random;
-use crate::script::{Script, random_script};
+use crate::refusal::{Part, Refusal, Refused};
+use crate::script::Script;
 use crate::story::{Story, Trees};
 use crate::tally::{Met, Tally};
-use crate::telling::follow;
-use crate::trouble::{Outcome, Trouble};
+use crate::trouble::Trouble;
 use lexer::tokenize;
-use project::load::Failure;
 use project::play::play;
 use std::alloc::{AllocError, Global};
 use syntax::parse;
 use syntax::tree::Tree;
 
+/// The parts of a project and a script, and the project's text.
 #[derive(Drop)]
 pub struct Row {
     header: Header,
@@ -22,23 +22,11 @@ pub struct Row {
     project: String,
 }
 
-/// What became of texts that were refused.
-fn outcome_of(failure: Failure) -> Outcome {
-    match failure {
-        Failure::Memory => Outcome::Memory,
-        Failure::Header(refusal) => Outcome::Header(refusal.number(), refusal.place()),
-        Failure::Program(refusal) => Outcome::Program(refusal.number(), refusal.place()),
-        Failure::Script(refusal) => Outcome::Script(refusal.number(), refusal.place()),
-    }
-}
-
 /// The tree that a program's text is read as.
 fn read(text: &str) -> Option<Tree> {
     let mut room = [0; 8192];
-    let Ok(tokens) = tokenize(text, &mut room) else {
-        return None;
-    };
-    parse(&room[0..2 * tokens as usize]).ok()
+    let tokens = tokenize(text, &mut room).ok()?;
+    parse(&room[..2 * tokens as usize]).ok()
 }
 
 /// A project's text; where its header can't be read, that is all of it.
@@ -51,76 +39,66 @@ fn project_text(header: &Header, program: &Program) -> Result<String, AllocError
 }
 
 impl Row {
+    /// The row of a seed.
     pub(crate) fn random(heap: Global, seed: u64) -> Result<Row, AllocError> {
-        let mut random = Random::new(seed);
-        let header = random_header(heap, &mut random)?;
-        let program = random_program(&mut random, heap)?;
-        let project = project_text(&header, &program)?;
-        let script = random_script(heap, &mut random, header.settings.kept)?;
+        let mut random = Random::new(heap, seed);
+        let header = Header::random(&mut random)?;
+        let program = Program::random(&mut random)?;
         Ok(Row {
+            project: project_text(&header, &program)?,
+            script: Script::random(&mut random, header.settings.kept)?,
             header,
             program,
-            script,
-            project,
         })
     }
 
+    /// The project's text.
     pub(crate) fn project(&self) -> &str {
         self.project.as_str()
     }
 
+    /// The script's text.
     pub(crate) fn script(&self) -> &str {
         self.script.text.as_str()
     }
 
-    /// What the checks say, in the order of the refusals.
-    fn expected(&self) -> Outcome {
-        if let Some(place) = self.header.wrong {
-            return Outcome::Header(1, place as u64);
-        }
-        if let Some((number, place)) = self.program.refused {
-            return Outcome::Program(number, place);
-        }
-        if self.header.settings.kept > 64 {
-            return Outcome::Header(5, 0);
-        }
-        match self.script.wrong {
-            Some(place) => Outcome::Script(1, place as u64),
-            None => Outcome::Played,
-        }
+    /// Where the first check fails, in the order of the refusals.
+    fn expected(&self) -> Result<(), Refused> {
+        let (part, why) = if let Some(place) = self.header.wrong {
+            (Part::Header, Refusal::Text(place))
+        } else if let Some(why) = self.program.refused {
+            (Part::Program, why)
+        } else if self.header.settings.kept > 64 {
+            (Part::Header, Refusal::Kept)
+        } else if let Some(place) = self.script.wrong {
+            (Part::Script, Refusal::Text(place))
+        } else {
+            return Ok(());
+        };
+        Err(Refused { part, why })
     }
+
     /// Follows an answer that is a text.
     fn follow(&self, heap: Global, answer: &str, tally: &mut Tally) -> Result<(), Trouble> {
         tally.count(Met::Played);
-        let Some(tree) = read(self.program.text.as_str()) else {
-            return Err(Trouble::Reading);
-        };
+        let tree = read(self.program.text.as_str()).ok_or(Trouble::Reading)?;
         let trees = Trees {
             made: &self.program.stmt,
             read: &tree,
         };
-        let mut story = Story::new(self.header.settings);
-        let events = self.script.events.as_slice();
-        follow(&mut story, heap, trees, events, answer, tally)
+        let story = Story::new(heap, trees, tally, self.header.settings);
+        story.follow(self.script.events.as_slice(), answer)
     }
 
     /// Plays it, and holds the answer against the plain story.
     pub(crate) fn check(&self, heap: Global, tally: &mut Tally) -> Result<(), Trouble> {
-        let expected = self.expected();
-        match play(heap, self.project(), self.script()) {
-            Ok(answer) => {
-                if expected != Outcome::Played {
-                    return Err(Trouble::Outcome(expected));
-                }
-                self.follow(heap, answer.as_str(), tally)
-            }
-            Err(failure) => {
-                if outcome_of(failure) != expected {
-                    return Err(Trouble::Outcome(expected));
-                }
-                tally.count_refused(expected);
+        match (play(heap, self.project(), self.script()), self.expected()) {
+            (Ok(answer), Ok(())) => self.follow(heap, answer.as_str(), tally),
+            (Err(failure), Err(refused)) if refused.agrees(&failure) => {
+                tally.count(Met::from(refused));
                 Ok(())
             }
+            (_, expected) => Err(Trouble::Answer(expected)),
         }
     }
 }

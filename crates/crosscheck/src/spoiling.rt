@@ -1,47 +1,50 @@
 //! Rows of tokens that are spoiled at one place, so that they are no program or no tokens.
 use crate::grammar::misfit;
 use crate::random::Random;
-use crate::token::Token;
+use crate::token::{Symbol, Token};
 use base::Op;
 use std::alloc::{AllocError, Global};
 
-/// A piece of text that is no token.
-fn wrong(random: &mut Random) -> Token {
-    Token::Wrong(match random.below(12) {
-        0 => "65536",
-        1 => "70000",
-        2 => "v64",
-        3 => "v01",
-        4 => "v",
-        5 => "1v",
-        6 => "If",
-        7 => ":",
-        8 => "?",
-        9 => "ends",
-        10 => "99999999999999999999",
-        _ => "é",
-    })
-}
+/// Pieces of text that are no tokens.
+const WRONG: [&str; 12] = [
+    "65536",
+    "70000",
+    "v64",
+    "v01",
+    "v",
+    "1v",
+    "If",
+    ":",
+    "?",
+    "ends",
+    "99999999999999999999",
+    "é",
+];
 
-/// Any token.
+/// Marks and words that are put into a program.
+const SYMBOLS: [Symbol; 12] = [
+    Symbol::Not,
+    Symbol::Open,
+    Symbol::Close,
+    Symbol::Becomes,
+    Symbol::Semicolon,
+    Symbol::Comma,
+    Symbol::If,
+    Symbol::Then,
+    Symbol::Else,
+    Symbol::Repeat,
+    Symbol::Times,
+    Symbol::End,
+];
+
+/// A token to put into a program.
 fn other(random: &mut Random) -> Token {
     match random.below(18) {
         0..=1 => Token::Number(random.word()),
         2..=3 => Token::Name(random.variable()),
         4 => Token::Operator(Op::Sub),
         5 => Token::Operator(Op::And),
-        6 => Token::Not,
-        7 => Token::Open,
-        8 => Token::Close,
-        9 => Token::Becomes,
-        10 => Token::Semicolon,
-        11 => Token::Comma,
-        12 => Token::If,
-        13 => Token::Then,
-        14 => Token::Else,
-        15 => Token::Repeat,
-        16 => Token::Times,
-        _ => Token::End,
+        number => Token::Symbol(SYMBOLS[number as usize - 6]),
     }
 }
 
@@ -53,23 +56,14 @@ fn spliced(
     new: &[Token],
     back: usize,
 ) -> Result<Vec<Token>, AllocError> {
-    let mut all = Vec::new(heap);
-    for (i, token) in tokens.iter().enumerate() {
-        if i < front {
-            all.push(*token)?;
-        }
-    }
-    all.extend_from_slice(new)?;
-    for (i, token) in tokens.iter().enumerate() {
-        if i >= back {
-            all.push(*token)?;
-        }
-    }
-    Ok(all)
+    let front = tokens.iter().take(front);
+    let back = tokens.iter().skip(back);
+    front.chain(new).chain(back).copied().collect(heap)
 }
 
 /// One token is left out, put in or replaced, or the row ends early.
-fn changed(heap: Global, random: &mut Random, tokens: &[Token]) -> Result<Vec<Token>, AllocError> {
+fn changed(random: &mut Random, tokens: &[Token]) -> Result<Vec<Token>, AllocError> {
+    let heap = random.heap;
     let count = tokens.len();
     let at = random.below(count as u64) as usize;
     let next = at.saturating_add(1);
@@ -79,19 +73,15 @@ fn changed(heap: Global, random: &mut Random, tokens: &[Token]) -> Result<Vec<To
         1 => spliced(heap, tokens, at, &[new], at),
         2 => spliced(heap, tokens, at, &[new], next),
         3 => spliced(heap, tokens, at, &[], count),
-        _ => spliced(heap, tokens, at, &[wrong(random)], at),
+        _ => spliced(heap, tokens, at, &[Token::Wrong(random.pick(&WRONG))], at),
     }
 }
 
 /// Spoils a program: its tokens are none any more, or, where a few tries do not do it, as they were.
-pub(crate) fn spoil(
-    tokens: Vec<Token>,
-    heap: Global,
-    random: &mut Random,
-) -> Result<Vec<Token>, AllocError> {
+pub(crate) fn spoil(random: &mut Random, tokens: Vec<Token>) -> Result<Vec<Token>, AllocError> {
     for _ in 0..8 {
-        let spoiled = changed(heap, random, tokens.as_slice())?;
-        if misfit(heap, spoiled.as_slice())?.is_some() {
+        let spoiled = changed(random, tokens.as_slice())?;
+        if misfit(random.heap, spoiled.as_slice())?.is_some() {
             return Ok(spoiled);
         }
     }

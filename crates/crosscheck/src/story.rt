@@ -1,14 +1,15 @@
 //! The story of a controller, told plainly: what each event does to it, and the line that is printed of it. It knows no code and no machine.
-use crate::cells::Cells;
+use crate::cells::{Cells, Cut};
 use crate::header::Settings;
-use crate::line_texts::{scan_line, start_line};
 use crate::meaning::Values;
+use crate::refusal::Refusal;
 use crate::script::{Event, Input, Scan};
 use crate::tally::{Met, Tally};
 use crate::tree::Stmt;
 use crate::trouble::Trouble;
 use semantics::evaluate;
-use std::alloc::Global;
+use std::alloc::{AllocError, Global};
+use std::cmp::Ordering;
 use syntax::tree::Tree;
 
 /// A program's two trees: the one that was made, and the one that was read from the text.
@@ -18,34 +19,15 @@ pub struct Trees<'a> {
     pub read: &'a Tree,
 }
 
-/// Words as the evaluator takes them.
-fn widened(words: &[u16; 64]) -> [u64; 64] {
-    let mut vars = [0; 64];
-    for i in 0..64 {
-        vars[i] = words[i] as u64;
-    }
-    vars
-}
-
-/// Are these numbers those words?
-fn same(vars: &[u64; 64], words: &[u16; 64]) -> bool {
-    for i in 0..64 {
-        if vars[i] != words[i] as u64 {
-            return false;
-        }
-    }
-    true
-}
-
 impl Trees<'_> {
     /// What a program makes of values, if both trees make the same.
     fn run(self, before: Values, elapsed: u16) -> Result<Values, Trouble> {
         let mut after = before;
         after.run(self.made, elapsed);
-        let mut vars = widened(&before.vars);
+        let mut vars = before.vars.map(u64::from);
         let mut fault = before.lamp as u64;
         let read = evaluate(self.read, elapsed as u64, &mut vars, &mut fault);
-        if read.is_ok() && same(&vars, &after.vars) && (fault != 0) == after.lamp {
+        if read.is_ok() && vars == after.vars.map(u64::from) && (fault != 0) == after.lamp {
             Ok(after)
         } else {
             Err(Trouble::Meaning)
@@ -53,14 +35,31 @@ impl Trees<'_> {
     }
 }
 
-#[derive(Clone, Copy)]
-pub struct Story {
+/// Values, with others in the place of some.
+fn overlaid(mut values: [u16; 64], others: &[Option<u16>; 64]) -> [u16; 64] {
+    for (value, other) in values.iter_mut().zip(others) {
+        *value = other.unwrap_or(*value);
+    }
+    values
+}
+
+/// A number that is a word, as was found before.
+fn word(number: u64) -> u16 {
+    number.min(65535) as u16
+}
+
+/// A controller beside a project and a script, and what is met on the way.
+#[derive(Drop)]
+pub struct Story<'a> {
+    heap: Global,
+    trees: Trees<'a>,
+    tally: &'a mut Tally,
     settings: Settings,
     on: bool,
     values: Values,
     forced: [Option<u16>; 64],
-    /// What was last said of each input.
-    outside: [u16; 64],
+    /// What was last said of each input; nothing of other variables.
+    outside: [Option<u16>; 64],
     /// What each variable last showed.
     shown: [u16; 64],
     /// The values that a start finds.
@@ -70,11 +69,19 @@ pub struct Story {
     cells: Cells,
 }
 
-impl Story {
+impl<'a> Story<'a> {
     /// As it leaves the factory.
-    pub(crate) fn new(settings: Settings) -> Story {
+    pub(crate) fn new(
+        heap: Global,
+        trees: Trees<'a>,
+        tally: &'a mut Tally,
+        settings: Settings,
+    ) -> Story<'a> {
         let firsts = settings.firsts;
         Story {
+            heap,
+            trees,
+            tally,
             settings,
             on: false,
             values: Values {
@@ -82,91 +89,75 @@ impl Story {
                 lamp: false,
             },
             forced: [None; 64],
-            outside: [0; 64],
+            outside: settings.inputs.map(|input| input.then_some(0)),
             shown: [0; 64],
             kept: firsts,
             either: None,
-            cells: Cells::new(settings.kept.min(64) as usize, &firsts),
+            cells: Cells::new(settings.kept as usize, &firsts),
         }
     }
 
     /// Why an event is refused.
-    pub(crate) fn refusal(&self, event: &Event) -> Option<(u64, u64)> {
-        if matches!(event, Event::Start) {
-            return None;
-        }
-        if !self.on {
-            return Some((6, 0));
-        }
+    fn refusal(&self, event: &Event) -> Option<Refusal> {
         match event {
             Event::Start => None,
-            Event::Scan(scan) | Event::Cut(scan, _, _) if scan.elapsed > 65535 => Some((7, 0)),
-            Event::Force(point, _) | Event::Free(point) if *point > 63 => Some((9, 0)),
-            Event::Force(_, number) if *number > 65535 => Some((9, 1)),
+            _ if !self.on => Some(Refusal::Off),
+            Event::Scan(scan) | Event::Cut(scan, _) if scan.elapsed > 65535 => Some(Refusal::Time),
+            Event::Force { point, .. } | Event::Free { point } if *point > 63 => {
+                Some(Refusal::Point)
+            }
+            Event::Force { number, .. } if *number > 65535 => Some(Refusal::Number),
             _ => None,
         }
     }
 
     /// Notes what a line says of the inputs.
-    pub(crate) fn note(&mut self, inputs: &[Input]) {
+    fn note(&mut self, inputs: &[Input]) {
         for input in inputs {
-            self.outside[input.variable as usize % 64] = input.value;
+            let outside = &mut self.outside[input.variable.index()];
+            *outside = outside.map(|_| input.value);
         }
     }
 
     /// What the program sees.
     fn seen(&self) -> Values {
-        let mut seen = self.values;
-        for i in 0..64 {
-            if self.settings.inputs[i] {
-                seen.vars[i] = self.outside[i];
-            }
-            if let Some(number) = self.forced[i] {
-                seen.vars[i] = number;
-            }
+        Values {
+            vars: overlaid(overlaid(self.values.vars, &self.outside), &self.forced),
+            lamp: self.values.lamp,
         }
-        seen
-    }
-
-    /// What goes out.
-    fn outputs(&self) -> [u16; 64] {
-        let mut out = self.values.vars;
-        for i in 0..64 {
-            if let Some(number) = self.forced[i] {
-                out[i] = number;
-            }
-        }
-        out
     }
 
     /// Do the cells hold the kept values?
     fn cells_agree(&self) -> bool {
         let found = self.cells.recovered();
-        for i in 0..self.settings.kept.min(64) as usize {
-            if found[i] != self.kept[i] as u64 {
-                return false;
-            }
+        found
+            .iter()
+            .zip(&self.kept)
+            .take(self.settings.kept as usize)
+            .all(|(found, kept)| *found == u64::from(*kept))
+    }
+
+    /// A line with every kept variable.
+    fn start_line(&self, kept: &[u16; 64]) -> Result<String, AllocError> {
+        let mut line = String::from_str(self.heap, "start:")?;
+        for (variable, value) in kept.iter().enumerate().take(self.settings.kept as usize) {
+            write!(line, " v{variable} {value}")?;
         }
-        true
+        Ok(line)
     }
 
     /// Power comes; the printed line decides between the values that a cut may have left.
-    pub(crate) fn start(
-        &mut self,
-        heap: Global,
-        printed: &str,
-        tally: &mut Tally,
-    ) -> Result<String, Trouble> {
-        let mut line = start_line(heap, self.settings.kept, &self.kept)?;
-        if let Some(new) = self.either {
-            let other = start_line(heap, self.settings.kept, &new)?;
+    fn start(&mut self, printed: &str) -> Result<String, Trouble> {
+        self.tally.count(Met::Start);
+        let mut line = self.start_line(&self.kept)?;
+        if let Some(new) = self.either.take() {
+            let other = self.start_line(&new)?;
             if line.as_str() != printed && other.as_str() == printed {
-                tally.count(Met::New);
+                self.tally.count(Met::New);
                 self.kept = new;
                 line = other;
             }
         }
-        self.either = None;
         if line.as_str() == printed && !self.cells_agree() {
             return Err(Trouble::Cells);
         }
@@ -177,8 +168,9 @@ impl Story {
     /// Kept variables as they were found, the others as at first, nothing forced, the lamp out.
     fn wake(&mut self) {
         let mut vars = self.settings.firsts;
-        for i in 0..self.settings.kept.min(64) as usize {
-            vars[i] = self.kept[i];
+        let kept = self.kept.iter().take(self.settings.kept as usize);
+        for (value, kept) in vars.iter_mut().zip(kept) {
+            *value = *kept;
         }
         self.on = true;
         self.values = Values { vars, lamp: false };
@@ -186,58 +178,93 @@ impl Story {
         self.shown = vars;
     }
 
-    /// A scan that ends.
-    pub(crate) fn scan(
-        &mut self,
-        heap: Global,
-        trees: Trees<'_>,
-        scan: &Scan,
-        tally: &mut Tally,
-    ) -> Result<String, Trouble> {
-        let was_lit = self.values.lamp;
-        let after = trees.run(self.seen(), scan.elapsed.min(65535) as u16)?;
-        let vars = after.vars;
-        self.values = after;
-        self.kept = vars;
-        self.cells.commit(&vars);
-        let out = self.outputs();
-        let lit = self.values.lamp && !was_lit;
-        if lit {
-            tally.count(Met::Lamp);
+    /// A line with each variable that shows another value than before, and the lamp if it went on.
+    fn scan_line(&self, out: &[u16; 64], lit: bool) -> Result<String, AllocError> {
+        let mut line = String::from_str(self.heap, "scan:")?;
+        for (variable, (before, after)) in self.shown.iter().zip(out).enumerate() {
+            if before != after {
+                write!(line, " v{variable} {after}")?;
+            }
         }
-        let line = scan_line(heap, &self.shown, &out, lit)?;
+        if lit {
+            line.push_str(" lamp lit")?;
+        }
+        Ok(line)
+    }
+
+    /// A scan that ends.
+    fn scan(&mut self, scan: &Scan) -> Result<String, Trouble> {
+        self.tally.count(Met::Scan);
+        let before = self.values;
+        let after = self.trees.run(self.seen(), word(scan.elapsed))?;
+        let lit = after.lamp && !before.lamp;
+        if lit {
+            self.tally.count(Met::Lamp);
+        }
+        self.values = after;
+        self.kept = after.vars;
+        self.cells.save(&after.vars, None);
+        let out = overlaid(after.vars, &self.forced);
+        let line = self.scan_line(&out, lit)?;
         self.shown = out;
         Ok(line)
     }
 
     /// A scan whose save is cut at a write.
-    pub(crate) fn cut(
-        &mut self,
-        trees: Trees<'_>,
-        scan: &Scan,
-        at: u64,
-        junk: u64,
-        tally: &mut Tally,
-    ) -> Result<(), Trouble> {
-        let after = trees.run(self.seen(), scan.elapsed.min(65535) as u16)?;
-        let new = after.vars;
+    fn cut(&mut self, scan: &Scan, cut: Cut) -> Result<(), Trouble> {
+        let new = self.trees.run(self.seen(), word(scan.elapsed))?.vars;
         let mut whole = self.cells;
-        let writes = whole.commit(&new);
-        self.cells.cut(&new, at, junk);
-        if at >= writes {
-            tally.count(Met::Late);
-            self.kept = new;
-        } else if at.saturating_add(1) == writes {
-            tally.count(Met::Last);
-            self.either = Some(new);
-        } else {
-            tally.count(Met::Early);
+        let writes = whole.save(&new, None);
+        self.cells.save(&new, Some(cut));
+        match cut.write.saturating_add(1).cmp(&writes) {
+            Ordering::Less => self.tally.count(Met::Early),
+            Ordering::Equal => {
+                self.tally.count(Met::Last);
+                self.either = Some(new);
+            }
+            Ordering::Greater => {
+                self.tally.count(Met::Late);
+                self.kept = new;
+            }
         }
         self.on = false;
         Ok(())
     }
 
-    pub(crate) fn force(&mut self, point: u64, number: Option<u16>) {
-        self.forced[point as usize % 64] = number;
+    /// What a point is forced to from now on, if to anything.
+    fn force(&mut self, point: u64, number: Option<u64>) {
+        if let Some(forced) = self.forced.get_mut(point as usize) {
+            *forced = number.map(word);
+        }
+    }
+
+    /// What an event that is not refused does, and the line that it leads to if it does to one.
+    fn take(&mut self, event: &Event, printed: &str) -> Result<Option<String>, Trouble> {
+        match event {
+            Event::Start => return Ok(Some(self.start(printed)?)),
+            Event::Scan(scan) => return Ok(Some(self.scan(scan)?)),
+            Event::Cut(scan, cut) => self.cut(scan, *cut)?,
+            Event::Force { point, number } => {
+                self.tally.count(Met::Force);
+                self.force(*point, Some(*number));
+            }
+            Event::Free { point } => {
+                self.tally.count(Met::Free);
+                self.force(*point, None);
+            }
+        }
+        Ok(None)
+    }
+
+    /// The line that an event leads to if it does to one, where the player printed this one next.
+    pub(crate) fn tell(&mut self, event: &Event, printed: &str) -> Result<Option<String>, Trouble> {
+        self.note(event.inputs());
+        match self.refusal(event) {
+            None => self.take(event, printed),
+            Some(refusal) => {
+                self.tally.count(Met::Refused);
+                Ok(Some(format!(in self.heap; "{refusal}")?))
+            }
+        }
     }
 }

@@ -1,6 +1,5 @@
 //! How many rows and events of each kind were met.
-use crate::trouble::Outcome;
-use std::io;
+use std::{fmt, io};
 
 /// How many kinds are counted.
 const KINDS: usize = 17;
@@ -27,62 +26,76 @@ pub enum Met {
     New,
 }
 
-/// What the counts are called, in the order of the kinds.
-fn name(kind: usize) -> &'static str {
-    match kind {
-        0 => "rows played",
-        1 => "headers refused",
-        2 => "programs refused for a piece that is no token",
-        3 => "programs refused by their grammar",
-        4 => "programs refused by a limit",
-        5 => "projects refused for keeping too many",
-        6 => "scripts refused",
-        7 => "starts",
-        8 => "scans",
-        9 => "scans that lit the lamp",
-        10 => "points forced",
-        11 => "points freed",
-        12 => "requests refused",
-        13 => "cuts before the last write of a save",
-        14 => "cuts after it",
-        15 => "cuts in it",
-        _ => "cuts in it that left the new values, and other ones than before",
+impl Met {
+    /// All of them, in their order.
+    const ALL: [Met; KINDS] = [
+        Met::Played,
+        Met::Header,
+        Met::Text,
+        Met::Grammar,
+        Met::Limit,
+        Met::Kept,
+        Met::Script,
+        Met::Start,
+        Met::Scan,
+        Met::Lamp,
+        Met::Force,
+        Met::Free,
+        Met::Refused,
+        Met::Early,
+        Met::Late,
+        Met::Last,
+        Met::New,
+    ];
+}
+
+/// What its count is called.
+impl fmt::Display for Met {
+    fn fmt<W: fmt::Write>(&self, f: &mut fmt::Formatter<W>) -> fmt::Result {
+        f.write_str(match self {
+            Met::Played => "rows played",
+            Met::Header => "headers refused",
+            Met::Text => "programs refused for a piece that is no token",
+            Met::Grammar => "programs refused by their grammar",
+            Met::Limit => "programs refused by a limit",
+            Met::Kept => "projects refused for keeping too many",
+            Met::Script => "scripts refused",
+            Met::Start => "starts",
+            Met::Scan => "scans",
+            Met::Lamp => "scans that lit the lamp",
+            Met::Force => "points forced",
+            Met::Free => "points freed",
+            Met::Refused => "requests refused",
+            Met::Early => "cuts before the last write of a save",
+            Met::Late => "cuts after it",
+            Met::Last => "cuts in it",
+            Met::New => "cuts in it that left the new values, and other ones than before",
+        })
     }
 }
 
-#[derive(Clone, Copy)]
+/// How many there are of each kind, in their order.
+#[derive(Drop)]
 pub struct Tally {
     counts: [u64; KINDS],
 }
 
 impl Tally {
+    /// Nothing was met yet.
     pub(crate) fn new() -> Tally {
         Tally { counts: [0; KINDS] }
     }
 
+    /// One more of a kind.
     pub(crate) fn count(&mut self, met: Met) {
-        let kind = met as usize % KINDS;
-        self.counts[kind] = self.counts[kind].saturating_add(1);
+        let count = &mut self.counts[met as usize];
+        *count = count.saturating_add(1);
     }
 
-    /// Counts a row that was refused.
-    pub(crate) fn count_refused(&mut self, outcome: Outcome) {
-        match outcome {
-            Outcome::Header(1, _) => self.count(Met::Header),
-            Outcome::Program(1, _) => self.count(Met::Text),
-            Outcome::Program(2, _) => self.count(Met::Grammar),
-            Outcome::Program(_, _) => self.count(Met::Limit),
-            Outcome::Header(_, _) => self.count(Met::Kept),
-            Outcome::Script(_, _) => self.count(Met::Script),
-            Outcome::Played | Outcome::Memory => {}
-        }
-    }
-
+    /// A line for each kind.
     pub(crate) fn print(&self, rt: &HostRuntime) -> io::Result<()> {
-        for kind in 0..KINDS {
-            let count = self.counts[kind];
-            let name = name(kind);
-            println!(rt; "{count} {name}")?;
+        for (met, count) in Met::ALL.iter().zip(&self.counts) {
+            println!(rt; "{count} {met}")?;
         }
         Ok(())
     }

@@ -1,12 +1,11 @@
 //! Tokens of the language as this crate writes them.
+use crate::variable::Variable;
 use base::Op;
 use std::fmt;
 
-#[derive(Clone, Copy)]
-pub enum Token {
-    Number(u16),
-    Name(u8),
-    Operator(Op),
+/// A mark or a word that is always the same.
+#[derive(Clone, Copy, PartialEq)]
+pub enum Symbol {
     Not,
     Open,
     Close,
@@ -20,10 +19,30 @@ pub enum Token {
     Times,
     Delay,
     End,
-    /// A piece of text that is no token.
-    Wrong(&'static str),
 }
 
+impl Symbol {
+    /// How it is written.
+    fn text(self) -> &'static str {
+        match self {
+            Symbol::Not => "not",
+            Symbol::Open => "(",
+            Symbol::Close => ")",
+            Symbol::Becomes => ":=",
+            Symbol::Semicolon => ";",
+            Symbol::Comma => ",",
+            Symbol::If => "if",
+            Symbol::Then => "then",
+            Symbol::Else => "else",
+            Symbol::Repeat => "repeat",
+            Symbol::Times => "times",
+            Symbol::Delay => "delay",
+            Symbol::End => "end",
+        }
+    }
+}
+
+/// How an operator is written.
 fn operator_text(op: Op) -> &'static str {
     match op {
         Op::Add => "+",
@@ -37,50 +56,50 @@ fn operator_text(op: Op) -> &'static str {
     }
 }
 
+/// A token, or a piece of text in the place of one.
+#[derive(Clone, Copy)]
+pub enum Token {
+    Number(u16),
+    Name(Variable),
+    Operator(Op),
+    Symbol(Symbol),
+    /// A piece of text that is no token.
+    Wrong(&'static str),
+}
+
 impl Token {
-    /// The text of a token that is neither a number nor a name.
-    fn word(self) -> &'static str {
+    /// Can it stand beside a letter or a digit?
+    fn stands_close(self) -> bool {
         match self {
-            Token::Number(_) | Token::Name(_) => "",
-            Token::Operator(op) => operator_text(op),
-            Token::Not => "not",
-            Token::Open => "(",
-            Token::Close => ")",
-            Token::Becomes => ":=",
-            Token::Semicolon => ";",
-            Token::Comma => ",",
-            Token::If => "if",
-            Token::Then => "then",
-            Token::Else => "else",
-            Token::Repeat => "repeat",
-            Token::Times => "times",
-            Token::Delay => "delay",
-            Token::End => "end",
-            Token::Wrong(text) => text,
+            Token::Operator(op) => !matches!(op, Op::And | Op::Or),
+            Token::Symbol(symbol) => matches!(
+                symbol,
+                Symbol::Open | Symbol::Close | Symbol::Becomes | Symbol::Semicolon | Symbol::Comma
+            ),
+            Token::Number(_) | Token::Name(_) | Token::Wrong(_) => false,
         }
     }
 
-    /// Is it made of letters and digits, or should it stand apart for another reason?
-    pub(crate) fn apart(self) -> bool {
-        match self {
-            Token::Operator(Op::And) | Token::Operator(Op::Or) => true,
-            Token::Operator(_) => false,
-            Token::Open | Token::Close | Token::Becomes | Token::Semicolon | Token::Comma => false,
-            _ => true,
-        }
-    }
-
+    /// Is it no token?
     pub(crate) fn is_wrong(self) -> bool {
         matches!(self, Token::Wrong(_))
     }
+
+    /// Must there be a blank between it and the next one?
+    pub(crate) fn parts_from(self, next: Token) -> bool {
+        self.is_wrong() || next.is_wrong() || !self.stands_close() && !next.stands_close()
+    }
 }
 
+/// The text of a token.
 impl fmt::Display for Token {
     fn fmt<W: fmt::Write>(&self, f: &mut fmt::Formatter<W>) -> fmt::Result {
         match *self {
-            Token::Number(n) => write!(f, "{n}"),
-            Token::Name(v) => write!(f, "v{v}"),
-            other => f.write_str(other.word()),
+            Token::Number(number) => write!(f, "{number}"),
+            Token::Name(variable) => write!(f, "{variable}"),
+            Token::Operator(op) => f.write_str(operator_text(op)),
+            Token::Symbol(symbol) => f.write_str(symbol.text()),
+            Token::Wrong(text) => f.write_str(text),
         }
     }
 }

@@ -1,16 +1,8 @@
 //! What can go wrong in a row: want of memory, or answers that differ.
+use crate::refusal::Refused;
 use std::alloc::{AllocError, AllocFailed};
 
-/// What becomes of two texts: they are played, or one is refused by a number at a place.
-#[derive(Clone, Copy, Debug, PartialEq)]
-pub enum Outcome {
-    Played,
-    Header(u64, u64),
-    Program(u64, u64),
-    Script(u64, u64),
-    Memory,
-}
-
+/// Why a row does not agree.
 #[derive(Debug, Drop)]
 pub enum Trouble {
     Memory,
@@ -22,8 +14,10 @@ pub enum Trouble {
     Cells,
     /// A line was expected where another one, or none, stands.
     Line(String),
-    /// This was expected, and something else came.
-    Outcome(Outcome),
+    /// The end was expected where a line stands.
+    End,
+    /// The texts were expected to be played or to be refused so, and something else came.
+    Answer(Result<(), Refused>),
 }
 
 impl From<AllocError> for Trouble {

@@ -29,14 +29,19 @@ fn cuts_a_program(rt: HostRuntime) {
 
 #[test]
 fn refuses_at_the_first_bad_piece(rt: HostRuntime) {
-    assert_eq!(rt; answer(" 70000"), Err(Refusal::Token(1)));
-    assert_eq!(rt; answer("65536"), Err(Refusal::Token(0)));
-    assert_eq!(rt; answer("v63 v64"), Err(Refusal::Token(4)));
-    assert_eq!(rt; answer("v01"), Err(Refusal::Token(0)));
-    assert_eq!(rt; answer("+1v"), Err(Refusal::Token(1)));
-    assert_eq!(rt; answer("1 : 2"), Err(Refusal::Token(2)));
-    assert_eq!(rt; answer("IF"), Err(Refusal::Token(0)));
-    assert_eq!(rt; answer("v1 ? 2"), Err(Refusal::Token(3)));
+    let cases = [
+        (" 70000", 1),
+        ("65536", 0),
+        ("v63 v64", 4),
+        ("v01", 0),
+        ("+1v", 1),
+        ("1 : 2", 2),
+        ("IF", 0),
+        ("v1 ? 2", 3),
+    ];
+    for (text, place) in cases {
+        assert_eq!(rt; answer(text), Err(Refusal::Token(place)), "{}", text);
+    }
 }
 
 #[test]
@@ -49,9 +54,9 @@ fn refuses_the_room_last(rt: HostRuntime) {
 
 #[test]
 fn finds_where_a_token_begins(rt: HostRuntime) {
-    assert_eq!(rt; token_place(" v1 :=\n 12;", 0), 1);
-    assert_eq!(rt; token_place(" v1 :=\n 12;", 2), 8);
-    assert_eq!(rt; token_place(" v1 :=\n 12;", 4), 11);
+    for (index, place) in [(0, 1), (2, 8), (4, 11)] {
+        assert_eq!(rt; token_place(" v1 :=\n 12;", index), place);
+    }
 }
 
 #[test]

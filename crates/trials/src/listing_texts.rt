@@ -1,15 +1,12 @@
 //! Listings of small programs: every instruction that is made, and what each program needs.
 use project::listing::listing;
-use std::alloc::Global;
+use std::alloc::{AllocError, Global};
 use std::test::Fail;
 
 /// Is this the listing of a program without a header?
-fn lists(heap: Global, program: &str, expected: &str) -> Result<bool, Fail> {
+fn lists(heap: Global, program: &str, expected: &str) -> Result<bool, AllocError> {
     let project = format!(in heap; "program\n{program}")?;
-    match listing(heap, project.as_str()) {
-        Ok(text) => Ok(text.as_str() == expected),
-        Err(_) => Ok(false),
-    }
+    Ok(listing(heap, project.as_str()).is_ok_and(|text| text.as_str() == expected))
 }
 
 #[test]

@@ -5,38 +5,36 @@ use semantics::evaluate;
 use syntax::parse;
 use vm::{Outcome, run};
 
-/// How a program ended and what it made of v0, v1 and zeros: whether all is well, the variables, and the fault.
-type Made = (bool, [u64; 64], u64);
+/// What a program that came to its end made of v0, v1 and zeros: the variables, and the fault.
+type Made = ([u64; 64], u64);
 
-/// What the machine makes of a program's tokens, 7 after the last run.
-fn by_machine(signs: &[u16], v0: u64, v1: u64) -> Made {
-    let mut room = [0; 16388];
+/// v0, v1 and zeros.
+fn variables(v0: u64, v1: u64) -> [u64; 64] {
     let mut vars = [0; 64];
-    let mut fault = 0;
     vars[0] = v0;
     vars[1] = v1;
-    let Ok(count) = make(signs, &mut room) else {
-        return (false, vars, fault);
-    };
-    match run(&room[0..4 * count as usize], 7, &mut vars, &mut fault) {
-        Outcome::Finished => (true, vars, fault),
-        Outcome::Trapped => (false, vars, fault),
+    vars
+}
+
+/// What the machine makes of a program's tokens, 7 after the last run.
+fn by_machine(signs: &[u16], v0: u64, v1: u64) -> Option<Made> {
+    let mut room = [0; 16388];
+    let mut vars = variables(v0, v1);
+    let mut fault = 0;
+    let count = make(signs, &mut room).ok()?;
+    match run(&room[..4 * count as usize], 7, &mut vars, &mut fault) {
+        Outcome::Finished => Some((vars, fault)),
+        Outcome::Trapped => None,
     }
 }
 
 /// What the evaluator makes of their tree.
-fn by_evaluator(signs: &[u16], v0: u64, v1: u64) -> Made {
-    let mut vars = [0; 64];
+fn by_evaluator(signs: &[u16], v0: u64, v1: u64) -> Option<Made> {
+    let mut vars = variables(v0, v1);
     let mut fault = 0;
-    vars[0] = v0;
-    vars[1] = v1;
-    let Ok(tree) = parse(signs) else {
-        return (false, vars, fault);
-    };
-    match evaluate(&tree, 7, &mut vars, &mut fault) {
-        Ok(()) => (true, vars, fault),
-        Err(_) => (false, vars, fault),
-    }
+    let tree = parse(signs).ok()?;
+    evaluate(&tree, 7, &mut vars, &mut fault).ok()?;
+    Some((vars, fault))
 }
 
 /// Do both come to an end with the same values and the same fault?
@@ -45,10 +43,9 @@ fn agree(text: &str, v0: u64, v1: u64) -> bool {
     let Ok(count) = tokenize(text, &mut tokens) else {
         return false;
     };
-    let signs = &tokens[0..2 * count as usize];
-    let (ran, left, noted) = by_machine(signs, v0, v1);
-    let (meant, right, fault) = by_evaluator(signs, v0, v1);
-    ran && meant && left == right && noted == fault
+    let signs = &tokens[..2 * count as usize];
+    let made = by_machine(signs, v0, v1);
+    made.is_some() && made == by_evaluator(signs, v0, v1)
 }
 
 #[test]

@@ -1,14 +1,20 @@
 //! Projects and scripts that are played: each with the text that comes of it.
 use project::play::play;
-use std::alloc::Global;
+use std::alloc::{AllocError, Global};
 use std::test::Fail;
 
 /// Is this what comes of a project and a script?
 pub(crate) fn comes_of(heap: Global, project: &str, script: &str, expected: &str) -> bool {
-    match play(heap, project, script) {
-        Ok(text) => text.as_str() == expected,
-        Err(_) => false,
-    }
+    play(heap, project, script).is_ok_and(|text| text.as_str() == expected)
+}
+
+/// Does v3 become this value of an expression, where v0 is 2, v1 is 5 and v2 is 3?
+pub(crate) fn becomes(heap: Global, expression: &str, value: &str) -> Result<bool, AllocError> {
+    let project = format!(in heap;
+        "first v0 2\nfirst v1 5\nfirst v2 3\nprogram\nv3 := {expression};"
+    )?;
+    let expected = format!(in heap; "start:\nscan: v3 {value}\n")?;
+    Ok(comes_of(heap, project.as_str(), "start\nscan 1", expected.as_str()))
 }
 
 #[test]
@@ -73,15 +79,7 @@ fn differences_keep_their_sign(rt: HostRuntime) -> Result<(), Fail> {
         ("1 or v0 and 0", "1"),
     ];
     for (expression, value) in cases {
-        let project = format!(in heap;
-            "first v0 2\nfirst v1 5\nfirst v2 3\nprogram\nv3 := {expression};"
-        )?;
-        let expected = format!(in heap; "start:\nscan: v3 {value}\n")?;
-        assert!(rt;
-            comes_of(heap, project.as_str(), "start\nscan 1", expected.as_str()),
-            "{}",
-            expression
-        );
+        assert!(rt; becomes(heap, expression, value)?, "{}", expression);
     }
     Ok(())
 }

@@ -92,21 +92,16 @@ fn a_cut_tells_the_first_that_is_wrong(rt: HostRuntime) {
 #[test]
 fn lists_have_their_length_exactly(rt: HostRuntime) {
     let places = [1, 2, 4, 6, 7, 8];
-    for i in 0..6 {
-        let mut short = RIGHT;
-        short[i] -= 1;
-        let mut long = RIGHT;
-        long[i] += 1;
-        assert_eq!(rt;
-            scan_with(&rt, 2, short, 1),
-            Err(Refusal::Length(places[i]))
-        );
-        assert_eq!(rt; scan_with(&rt, 2, long, 1), Err(Refusal::Length(places[i])));
-    }
-    for i in 0..3 {
-        let mut short = RIGHT;
-        short[i] -= 1;
-        assert_eq!(rt; cut_with(&rt, 2, short, 1), Err(Refusal::Length(places[i])));
+    for (i, place) in places.iter().enumerate() {
+        let refusal = Err(Refusal::Length(*place));
+        let mut lengths = RIGHT;
+        lengths[i] -= 1;
+        assert_eq!(rt; scan_with(&rt, 2, lengths, 1), refusal);
+        if i < 3 {
+            assert_eq!(rt; cut_with(&rt, 2, lengths, 1), refusal);
+        }
+        lengths[i] = RIGHT[i] + 1;
+        assert_eq!(rt; scan_with(&rt, 2, lengths, 1), refusal);
     }
     assert_eq!(rt;
         cut_with(&rt, 2, [64, 64, 64, 201, 0, 0], 1),
@@ -118,27 +113,41 @@ fn lists_have_their_length_exactly(rt: HostRuntime) {
     );
 }
 
+/// So many kept values, so many first values and so long a memory, and the place of the first that is wrong.
+const WRONG: [(u64, usize, usize, u64); 6] = [
+    (65, 0, 0, 0),
+    (64, 0, 0, 1),
+    (2, 63, 202, 1),
+    (2, 65, 202, 1),
+    (1, 64, 202, 2),
+    (3, 64, 202, 2),
+];
+
 #[test]
 fn works_tells_the_first_that_is_wrong(rt: HostRuntime) {
     let mut memory = [9; 202];
-    assert_eq!(rt; works(65, &[], &mut []), Err(Refusal::Length(0)));
-    assert_eq!(rt; works(64, &[], &mut []), Err(Refusal::Length(1)));
-    assert_eq!(rt; works(2, &[0; 63], &mut memory), Err(Refusal::Length(1)));
-    assert_eq!(rt; works(2, &[0; 65], &mut memory), Err(Refusal::Length(1)));
-    assert_eq!(rt; works(1, &[0; 64], &mut memory), Err(Refusal::Length(2)));
-    assert_eq!(rt; works(3, &[0; 64], &mut memory), Err(Refusal::Length(2)));
+    for (kept, firsts, length, place) in WRONG {
+        let told = works(
+            kept,
+            &[0; 65][..firsts.min(65)],
+            &mut memory[..length.min(202)],
+        );
+        assert_eq!(rt; told, Err(Refusal::Length(place)));
+    }
     assert!(rt; memory == [9; 202]);
 }
 
 #[test]
 fn a_start_tells_the_first_that_is_wrong(rt: HostRuntime) {
     let mut memory = [9; 202];
-    assert_eq!(rt; start(65, &[], &mut []), Err(Refusal::Length(0)));
-    assert_eq!(rt; start(64, &[], &mut []), Err(Refusal::Length(1)));
-    assert_eq!(rt; start(2, &[0; 63], &mut memory), Err(Refusal::Length(1)));
-    assert_eq!(rt; start(2, &[0; 65], &mut memory), Err(Refusal::Length(1)));
-    assert_eq!(rt; start(1, &[0; 64], &mut memory), Err(Refusal::Length(2)));
-    assert_eq!(rt; start(3, &[0; 64], &mut memory), Err(Refusal::Length(2)));
+    for (kept, firsts, length, place) in WRONG {
+        let told = start(
+            kept,
+            &[0; 65][..firsts.min(65)],
+            &mut memory[..length.min(202)],
+        );
+        assert_eq!(rt; told, Err(Refusal::Length(place)));
+    }
     assert!(rt; memory == [9; 202]);
 }
 
@@ -210,12 +219,10 @@ fn stamped(base: usize, stamp: u64) -> [u64; 202] {
     let mut memory = [0; 202];
     memory[192] = 1;
     let slot = [stamp, 3, 4, stamp];
-    for i in 0..4 {
-        if base == 198 {
-            memory[198 + i] = slot[i];
-        } else {
-            memory[194 + i] = slot[i];
-        }
+    if base == 198 {
+        memory[198..].copy_from_slice(&slot);
+    } else {
+        memory[194..198].copy_from_slice(&slot);
     }
     memory
 }

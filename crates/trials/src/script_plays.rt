@@ -1,5 +1,5 @@
 //! Scripts played line by line: cuts, forced points, inputs, the lamp and starts.
-use crate::plays::comes_of;
+use crate::plays::{becomes, comes_of};
 use std::test::Fail;
 
 #[test]
@@ -68,15 +68,7 @@ fn differences_go_round_on_both_sides(rt: HostRuntime) -> Result<(), Fail> {
         ("v0 - v1 and v2", "1"),
     ];
     for (expression, value) in cases {
-        let project = format!(in heap;
-            "first v0 2\nfirst v1 5\nfirst v2 3\nprogram\nv3 := {expression};"
-        )?;
-        let expected = format!(in heap; "start:\nscan: v3 {value}\n")?;
-        assert!(rt;
-            comes_of(heap, project.as_str(), "start\nscan 1", expected.as_str()),
-            "{}",
-            expression
-        );
+        assert!(rt; becomes(heap, expression, value)?, "{}", expression);
     }
     Ok(())
 }

@@ -8,12 +8,12 @@ use syntax::{Tree, parse};
 pub(crate) fn parsed(text: &str) -> Result<Tree, Refusal> {
     let mut tokens = [0; 8192];
     let count = tokenize(text, &mut tokens)?;
-    parse(&tokens[0..2 * count as usize])
+    parse(&tokens[..2 * count as usize])
 }
 
 /// Makes a program's text into code at the front of a room.
 pub(crate) fn compiled(text: &str, room: &mut [u16]) -> Result<u64, Refusal> {
     let mut tokens = [0; 8192];
     let count = tokenize(text, &mut tokens)?;
-    make(&tokens[0..2 * count as usize], room)
+    make(&tokens[..2 * count as usize], room)
 }
