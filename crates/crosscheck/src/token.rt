@@ -42,7 +42,7 @@ impl Symbol {
     }
 }
 
-/// How an operator is written.
+/// How an operator is written, as docs/LANGUAGE.md has it: the product's own texts are what is tried.
 fn operator_text(op: Op) -> &'static str {
     match op {
         Op::Add => "+",

@@ -1,5 +1,5 @@
 //! What people are told of projects and scripts that are refused: the whole line, with the place it points at.
-use crate::refusals::nested;
+use crate::refusals::repeated;
 use base::Refusal;
 use project::load::Failure;
 use project::message::message;
@@ -78,20 +78,19 @@ fn projects_are_refused_at_a_line_and_a_column(rt: HostRuntime) -> Result<(), Fa
 #[test]
 fn a_high_and_a_deep_program_are_refused_at_the_line_program(rt: HostRuntime) -> Result<(), Fail> {
     let heap = rt.alloc();
-    let high = nested(heap, "1 + (", "1", ")", 32)?;
-    let high = format!(in heap; "kept 1\nprogram\nv1 := {high};")?;
+    let high = repeated(heap, "kept 1\nprogram\nv1 := ", "1 + (", 32, "1")?;
+    let high = repeated(heap, high.as_str(), ")", 32, ";")?;
     assert_eq!(rt;
         told_about(heap, high.as_str(), "")?.as_str(),
         "mill.plc:2:1: refused 3 at 1: the program needs more than 32 values at a time"
     );
-    let deep = nested(heap, "repeat 1 times ", "", "end;", 9)?;
-    let deep = format!(in heap; "program\n{deep}")?;
+    let deep = repeated(heap, "program\n", "repeat 1 times ", 9, "")?;
+    let deep = repeated(heap, deep.as_str(), "end;", 9, "")?;
     assert_eq!(rt;
         told_about(heap, deep.as_str(), "")?.as_str(),
         "mill.plc:1:1: refused 3 at 2: the program has more than 8 repetitions one in another"
     );
-    let long = "v1 := 1;\n".repeat(heap, 1025)?;
-    let long = format!(in heap; "program\n{long}")?;
+    let long = repeated(heap, "program\n", "v1 := 1;\n", 1025, "")?;
     assert_eq!(rt;
         told_about(heap, long.as_str(), "")?.as_str(),
         "mill.plc:1026:1: refused 1 at 9216: a program has at most 4096 tokens"
