@@ -36,7 +36,7 @@ pub(crate) fn header_words(refusal: Refusal) -> &'static str
     }
 }
 
-/// The sentence about a limit.
+/// The sentence about a limit, by the place that its refusal has: a number there, since the list of refusals says so.
 pub(crate) fn limit_words(limit: u64) -> &'static str
     ensures { result.now ≡ limit_text limit }
 {

@@ -25,7 +25,7 @@ pub const MOST_VALUES: u32 = 32;
 /// A program that is deeper is refused.
 pub const MOST_REPETITIONS: u32 = 8;
 
-/// Refuses what needs more than there is, by the first limit that it passes.
+/// Refuses what needs more than there is, by the first limit that it passes. Three tests and no table: each says its place.
 pub fn check_limits(needs: Needs) -> Result<(), Refusal>
     ensures { Checked result (passes_limit needs.cost needs.height needs.depth) }
 {

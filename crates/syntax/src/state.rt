@@ -37,7 +37,7 @@ pub(crate) enum State {
 }
 
 // How many nodes and frames are free goes down with each token, so no invariant says it: a step asks for room for one more.
-/// The nodes that are made so far, and the stack of what is put aside.
+/// The nodes that are made so far, and the stack of what is put aside: arrays with counts, since there is no heap in here.
 #[derive(Drop)]
 pub(crate) struct Parser {
     pub nodes: [u16; ROOM],
