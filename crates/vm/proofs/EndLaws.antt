@@ -1,17 +1,19 @@
 -- From the last machine of a run to what `run` answers.
-use Rattle.std.proofs.Common.{◌≡◌, ℕ, ◌/◌, List, length, sym, ap, ◌∙◌}
+use Rattle.std.proofs.Common.{◌≡◌, ℕ, ◌/◌, List, length, map, sym, refl, ap, ◌∙◌}
 use Rattle.std.proofs.lemmas.Bool.{cond-true, cond-false, eq-eqb, ne_eqb}
 use Rattle.semantics.specs.Eval.{Values}
 use Rattle.compiler.specs.Machine.{Machine, boot}
-use Rattle.compiler.specs.Code.{code_in}
+use Rattle.std.specs.Simd.{first_chunks}
+use Rattle.compiler.specs.Code.{instr_at}
+use Rattle.compiler.proofs.Decodes.{chunks_read}
 use Rattle.vm.specs.Bounds.{bounded_steps}
 use Rattle.vm.specs.Outcomes.{last, program_of, outcome_of}
 use Rattle.vm.specs.declared.Outcome.TheVariants.{Finished, Trapped}
 use Rattle.vm.proofs.CodeLaws.{code_length}
 
 -- a run of a machine before its first instruction
-pub booted : (size : ℕ) (code : List ℕ) (elapsed : ℕ) (r : Values) (b m : Machine) → b ≡ boot r → m ≡ bounded_steps size 20000 elapsed (code_in code) b → m ≡ last size code elapsed r
-booted size code elapsed r b m e h = h ∙ ap (bounded_steps size 20000 elapsed (code_in code)) e
+pub booted : (size : ℕ) (code : List ℕ) (xs : List (List ℕ)) (elapsed : ℕ) (r : Values) (b m : Machine) → xs ≡ first_chunks 4 (length code / 4) code → b ≡ boot r → m ≡ bounded_steps size 20000 elapsed (map instr_at xs) b → m ≡ last size code elapsed r
+booted size code xs elapsed r b m c e h = h ∙ (λ i. bounded_steps size 20000 elapsed ((ap (map instr_at) c ∙ chunks_read _ code refl) i) (e i))
 
 pub store_made : (size : ℕ) (code : List ℕ) (elapsed : ℕ) (r : Values) (m : Machine) → m ≡ last size code elapsed r → m.vars ≡ (program_of size code elapsed r).store
 unfolding program_of

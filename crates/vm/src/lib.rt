@@ -49,9 +49,10 @@ pub fn run(code: &[u16], elapsed: u64, vars: &mut [u64], fault: &mut u64) -> Out
         values: [0; 32],
         control: [0; 8],
     };
+    let (code, _) = code.as_chunks();
     vm.execute(&mut items, BUDGET, code, elapsed, vars);
     *fault = vm.fault;
-    if vm.pc == code.len() / 4 {
+    if vm.pc == code.len() {
         Outcome::Finished
     } else {
         Outcome::Trapped

@@ -1,9 +1,9 @@
 //! The machine: what each instruction does, and the loop that does one after another.
-ghost use Rattle.std.specs.Prelude.{◌≡◌, ℕ, ◌^◌, ◌<◌, List, length};
+ghost use Rattle.std.specs.Prelude.{◌≡◌, ℕ, ◌^◌, ◌<◌, List, length, map};
 ghost use Rattle.base.specs.Ops.{op_of};
 ghost use Rattle.compiler.specs.Instr.{Instr, push, load, store, invert, binary, jump, jump_if_zero, enter, back, tick};
 ghost use Rattle.compiler.specs.Machine.{boot};
-ghost use Rattle.compiler.specs.Code.{instr_of, code_in};
+ghost use Rattle.compiler.specs.Code.{instr_of, instr_at};
 ghost use Rattle.vm.specs.Bounds.{bounded_steps};
 ghost use Rattle.vm.specs.State.{machine_of, Done, DoneInside};
 ghost use Rattle.vm.specs.Outcomes.{values_of};
@@ -203,34 +203,24 @@ impl Vm {
         }
     }
 
-    /// Runs `code` for at most `budget` instructions.
+    /// Runs code, an instruction in four numbers, for at most `budget` instructions.
     pub(crate) fn execute(
         &mut self,
         items: &mut Items,
         budget: u32,
-        code: &[u16],
+        code: &[[u16; 4]],
         elapsed: u64,
         vars: &mut [u64],
     )
         requires { self.old.pc ≡ 0 }
-        ensures { machine_of self.new items.new vars.new ≡ bounded_steps (length vars.old) budget elapsed (code_in code.now) (machine_of self.old items.old vars.old) }
+        ensures { machine_of self.new items.new vars.new ≡ bounded_steps (length vars.old) budget elapsed (map instr_at code.now) (machine_of self.old items.old vars.old) }
     {
-        let count = code.len() / 4;
         let mut left = budget;
-        while left > 0 && self.pc < count {
+        while left > 0 && self.pc < code.len() {
             let here = self.pc;
-            let at = here * 4;
-            let kind = code[at];
+            let [kind, a, b, c] = code[here];
             self.pc = here + 1;
-            if !self.step(
-                items,
-                kind,
-                code[at + 1],
-                code[at + 2],
-                code[at + 3],
-                elapsed,
-                vars,
-            ) {
+            if !self.step(items, kind, a, b, c, elapsed, vars) {
                 self.pc = here;
                 return;
             }
