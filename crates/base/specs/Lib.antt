@@ -5,3 +5,4 @@ pub mod Ops
 pub mod Rooms
 pub mod Refusals
 pub mod Texts
+pub mod Numerals

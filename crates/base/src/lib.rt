@@ -5,6 +5,7 @@ ghost use Rattle.std.specs.Prelude.{◌≡◌};
 ghost use Rattle.base.specs.Ops.{op_code, op_of};
 ghost use Rattle.base.specs.Refusals.{number_of, place_of};
 
+pub mod numerals;
 mod texts;
 pub mod words;
 

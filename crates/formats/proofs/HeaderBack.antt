@@ -10,7 +10,8 @@ use Rattle.headers.specs.Header.{Plan, blank_header, take_marks, take_header_lin
 use Rattle.formats.specs.HeaderText.{words_line, first_lines, header_text, marked, valued, Variables, LacksVariable, Distinct, ProjectReadsBack}
 use Rattle.formats.specs.ScriptText.{spaced, name_text, InputsFit}
 use Rattle.lines.proofs.LineCuts.{Lacks, first_line}
-use Rattle.formats.proofs.Written.{known, number_back, variable_back, value_back, Word, number_word, name_word, AllWords, place, line_end, line_lacks}
+use Rattle.base.proofs.NumeralLaws.{number_back}
+use Rattle.formats.proofs.Written.{known, variable_back, value_back, Word, number_word, name_word, AllWords, place, line_end, line_lacks}
 
 -- a written line is cut off, and what follows it is read on
 line_cut : (w : List ℕ) (ws : List (List ℕ)) (more program : List ℕ) → (words_line w ws ++ more) ++ program ≡ (w ++ spaced ws) ++ (10 ∷ (more ++ program))

@@ -7,7 +7,8 @@ use Rattle.scripts.specs.Script.{Request, start, scan, cut, force, free, take_pa
 use Rattle.formats.specs.ScriptText.{spaced, name_text, keyword, arguments, inputs_of, input_words, inputs_text, line_text, script_text, InputsFit, RequestFits, RequestsFit, ScriptReadsBack}
 use Rattle.lines.proofs.Cuts.{Ends, first_colon, begins_end}
 use Rattle.lines.proofs.LineCuts.{Lacks, first_line}
-use Rattle.formats.proofs.Written.{known, number_back, name_back, variable_back, value_back, Word, clean_lacks, number_word, name_word, AllWords, place, spaced_end, line_cut, lacks_append, lacks_cons, spaced_lacks}
+use Rattle.base.proofs.NumeralLaws.{number_back, name_back}
+use Rattle.formats.proofs.Written.{known, variable_back, value_back, Word, clean_lacks, number_word, name_word, AllWords, place, spaced_end, line_cut, lacks_append, lacks_cons, spaced_lacks}
 
 inputs_are_words : (is : List Input) → InputsFit is → AllWords (input_words is)
 inputs_are_words [] h = tt

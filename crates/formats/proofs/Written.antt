@@ -1,36 +1,17 @@
 -- Words as they are written, and cut again.
-use Rattle.std.proofs.Common.{◌≡◌, ℕ, zero, suc, ◌+◌, ◌^◌, ◌<◌, ◌≤◌, Bool, true, false, cond, ◌&&◌, ltb, List, [], ◌∷◌, ◌++◌, length, get_or, Some, decimal, sym, refl, ap, ◌∙◌, ⊎_elim, append_assoc, append-nil, arith}
+use Rattle.std.proofs.Common.{◌≡◌, ℕ, zero, suc, ◌+◌, ◌^◌, ◌<◌, ◌≤◌, Bool, true, false, cond, ◌&&◌, ltb, List, [], ◌∷◌, ◌++◌, length, Some, decimal, sym, refl, ap, ◌∙◌, append_assoc, append-nil, arith}
 use mathlib.Core.Path.{fun_ext}
 use Rattle.std.specs.Str.{all_ascii_digits}
-use Rattle.std.proofs.lemmas.Fmt.{digits_decimal, digits_value-decimal, decimal_nonempty, decimal_digit, first_decimal}
+use Rattle.std.proofs.lemmas.Fmt.{digits_decimal, decimal_nonempty}
 use Rattle.std.proofs.lemmas.Str.Parse.{tells_all_ascii_digits}
-use Rattle.std.proofs.lemmas.Bool.{lt-ltb, ne_eqb, and_from, and_parts, and_right, cases_eq}
+use Rattle.std.proofs.lemmas.Bool.{lt-ltb, and_from, and_parts}
 use Rattle.std.proofs.lemmas.Bool.Decides.{nat_tests}
 use Rattle.lines.specs.Words.{Words, end, word, words_on}
-use Rattle.lines.specs.Reading.{number_of, name_of, below, zero_leads, variable_of, value_of}
+use Rattle.lines.specs.Reading.{below, variable_of, value_of}
 use Rattle.formats.specs.ScriptText.{spaced, name_text}
 use Rattle.lines.proofs.Cuts.{stop, blank_is, Whole, Ends, first_word, first_blank, begins_end}
 use Rattle.lines.proofs.LineCuts.{Lacks}
-use Rattle.lines.proofs.Names.{digits}
-
-pub number_back : (n : ℕ) → n < 2 ^ 64 → number_of (decimal n) ≡ Some n
-unfolding number_of
-number_back n h =
-    let d = digits_decimal digits n h in
-    let v = digits_value-decimal digits n h in
-    let s = lt-ltb 0 (length (decimal n)) (decimal_nonempty n h) in
-    let t : ltb n 18446744073709551616 ≡ true = lt-ltb n 18446744073709551616 h in
-    rw (d, s, v, t)
-
-no_zero_leads : (n : ℕ) → n < 2 ^ 64 → zero_leads (decimal n) ≡ false
-no_zero_leads n h = ⊎_elim
-    (λ e. ap (λ m. zero_leads (decimal m)) e ∙ ap zero_leads (decimal_digit 0 (omega arith)))
-    (λ (e : n ≡ 0 → ⊥). and_right _ _ (ne_eqb (get_or (decimal n) 0 0) 48 (λ z. omega (arith, first_decimal n (omega arith) h))))
-    (cases_eq n 0)
-
-pub name_back : (n : ℕ) → n < 2 ^ 64 → name_of (name_text n) ≡ Some n
-unfolding name_of
-name_back n h = let z = no_zero_leads n h in rw z (number_back n h)
+use Rattle.base.proofs.NumeralLaws.{digits, number_back, name_back}
 
 below_limit : (n limit : ℕ) → n < limit → below limit (Some n) ≡ Some n
 below_limit n limit h = let t = lt-ltb n limit h in rw t

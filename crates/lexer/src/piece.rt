@@ -1,5 +1,5 @@
 //! The piece that a text begins with, and the token that it spells.
-ghost use Rattle.std.specs.Prelude.{◌≡◌, ℕ, ◌<◌, ◌≤◌, length, take, IsTrue, ◌↔◌, MatchOption, slice_index};
+ghost use Rattle.std.specs.Prelude.{◌≡◌, ℕ, ◌<◌, ◌≤◌, length, MatchOption};
 ghost use Rattle.std.specs.Char.{is_ascii_alphanumeric};
 ghost use Rattle.std.specs.List.{prefix_len};
 ghost use Rattle.std.specs.Str.Parse.{digits_value, IsNumeral};
@@ -8,36 +8,21 @@ ghost use Rattle.lexer.specs.Piece.{piece_length};
 
 use super::Token;
 use super::text::{mark, operator};
-use base::VARIABLES;
+use base::{VARIABLES, numerals};
 use std::str::from_utf8;
 
 /// The number that a row of digits is, if it is one and at most 65,535.
 fn number(word: &str) -> Option<u16>
     ensures { MatchOption result (IsNumeral 10 word.now → digits_value 10 word.now < 65536 → ⊥) (λ n. IsNumeral 10 word.now × (digits_value 10 word.now ≡ n)) }
 {
-    // A sign is a piece of its own, though `parse` would take one.
-    if word.starts_with('+') {
-        return None;
-    }
-    word.parse().ok()
-}
-
-/// Whether a row of digits begins with a zero that it could do without.
-fn has_leading_zero(digits: &str) -> bool
-    ensures { IsTrue result ↔ ((slice_index digits.now 0 ≡ 48) × (1 < length digits.now)) }
-{
-    digits.starts_with('0') && digits.len() > 1
+    u16::try_from(numerals::number(word)?).ok()
 }
 
 /// The name's index: `v` and a number below 64 with no leading zero.
 fn name(word: &str) -> Option<u16>
     ensures { MatchOption result ((i : ℕ) → Spells word.now (Token.Name i) → ⊥) (λ i. Spells word.now (Token.Name i)) }
 {
-    let digits = word.strip_prefix('v')?;
-    if has_leading_zero(digits) {
-        return None;
-    }
-    let index = number(digits)?;
+    let index = u16::try_from(numerals::name(word)?).ok()?;
     (usize::from(index) < VARIABLES).then_some(index)
 }
 

@@ -1,5 +1,4 @@
 pub mod Cuts
-pub mod Names
 pub mod LineCuts
 pub mod Errors
 pub mod Counts

@@ -1,7 +1,7 @@
 -- Words read as numbers, names and keywords, one after another. Assumes nothing: these are definitions.
-use Rattle.std.specs.Prelude.{◌≡◌, ℕ, Bool, true, false, cond, not, ◌&&◌, List, [], ◌∷◌, length, Some, None, Ok, Err, Option, Result, ◌==◌, nat_lt, slice_index}
-use Rattle.std.specs.Str.Parse.{digits_value}
-use Rattle.std.specs.Str.{all_ascii_digits, bytes_eq}
+use Rattle.std.specs.Prelude.{◌≡◌, ℕ, Bool, true, false, cond, List, [], Some, None, Ok, Err, Option, Result, nat_lt}
+use Rattle.std.specs.Str.{bytes_eq}
+pub use Rattle.base.specs.Numerals.{number_of, name_of}
 use Rattle.lines.specs.declared.line.Line.{Line}
 use Rattle.lines.specs.declared.words.ReadError.{ReadError}
 use Rattle.lines.specs.declared.words.ReadError.TheVariants.{Memory, At}
@@ -11,23 +11,10 @@ use Rattle.lines.specs.Words.{Words, end, word, words_on}
 unfoldable pub left : Line → Words
 left l = words_on l.at [] l.text.now
 
--- digits that write a number below 2^64; zeros may lead it
-unfoldable pub number_of : List ℕ → Option ℕ
-number_of w = cond (all_ascii_digits w && (nat_lt 0 (length w) && nat_lt (digits_value 10 w) 18446744073709551616)) (Some (digits_value 10 w)) None
-
 -- a number that is below a limit
 abbrev pub below : ℕ → Option ℕ → Option ℕ
 below limit None = None
 below limit (Some n) = cond (nat_lt n limit) (Some n) None
-
--- is it a zero with more digits after it
-abbrev pub zero_leads : List ℕ → Bool
-zero_leads ds = nat_lt 1 (length ds) && slice_index ds 0 == 48
-
--- a `v` and a number that no zero leads
-unfoldable pub name_of : List ℕ → Option ℕ
-name_of [] = None
-name_of (c ∷ ds) = cond (c == 118 && not (zero_leads ds)) (number_of ds) None
 
 -- one of the 64 variables
 abbrev pub variable_of : List ℕ → Option ℕ

@@ -1,12 +1,14 @@
 //! A line read word by word: numbers, names of variables and keywords.
 ghost use Rattle.std.specs.Prelude.{◌≡◌, ℕ, List, Option, ◌+◌, ◌<◌, false, [], ◌++◌, length, slice_index};
 ghost use Rattle.lines.specs.Words.{blank, word as word_at, words_on};
-ghost use Rattle.lines.specs.Reading.{took, number_of, name_of, variable_of, value_of, left, ended, first_place, take_word, take, take_number, take_name, take_variable, take_value, take_keyword, take_end, Makes, Answers};
+ghost use Rattle.lines.specs.Reading.{took, variable_of, value_of, left, ended, first_place, take_word, take, take_number, take_name, take_variable, take_value, take_keyword, take_end, Makes, Answers};
 ghost use Rattle.std.specs.Fn.{FnReturnsAt};
 ghost use Rattle.lines.specs.declared.words.ReadError.TheVariants.{Memory};
 
 use crate::line::{Line, Word};
 use base::VARIABLES;
+use base::numerals::name;
+pub use base::numerals::number;
 use std::alloc::{AllocError, AllocFailed};
 
 /// Why a text is not read: want of memory, or the place of the first word that does not fit.
@@ -29,29 +31,6 @@ impl<T: Drop> From<AllocFailed<T>> for ReadError {
 
     fn from(_e: AllocFailed<T>) -> ReadError {
         ReadError::Memory
-    }
-}
-
-/// A number up to 2^64 - 1; zeros may lead it, and a sign may not.
-pub fn number(word: &str) -> Option<u64>
-    ensures { result ≡ number_of word.now }
-{
-    if word.starts_with('+') {
-        None
-    } else {
-        word.parse().ok()
-    }
-}
-
-/// The number of a name such as `v5`: no zero leads it.
-fn name(word: &str) -> Option<u64>
-    ensures { result ≡ name_of word.now }
-{
-    let digits = word.strip_prefix('v')?;
-    if digits.len() > 1 && digits.starts_with('0') {
-        None
-    } else {
-        number(digits)
     }
 }
 

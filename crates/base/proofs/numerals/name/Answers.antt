@@ -2,9 +2,9 @@ use Rattle.std.proofs.Common.{◌≡◌, ◌∷◌, Some, None, sym, ◌∙◌, 
 use Rattle.std.proofs.lemmas.Str.Pattern.{starts_char, strip_prefix_char}
 use Rattle.std.proofs.lemmas.Bool.{and_from, and_left, and_right, lt-ltb, le-ltb, eq-eqb}
 use Rattle.std.proofs.lemmas.Bool.Decides.{same_from_decides, Decides-eqb}
-use Rattle.lines.proofs.Names.{no_name, name_digits, name_zero}
-use Rattle.lines.proofs.words.name.Goals as goal
-use Rattle.lines.proofs.words.name.Goals.{In_ok-digits, else-digits-gt1-via-then-digits-gt1+else-starts_with, else-digits-gt1-via-else-digits-gt1}
+use Rattle.base.proofs.NumeralLaws.{no_name, name_digits, name_zero}
+use Rattle.base.proofs.numerals.name.Goals as goal
+use Rattle.base.proofs.numerals.name.Goals.{In_ok-digits, else-digits-gt1-via-then-digits-gt1+else-starts_with, else-digits-gt1-via-else-digits-gt1}
 
 after : (c : In_ok-digits) → c.args.word.now ≡ 118 ∷ c.in_ok-digits.digits.now
 after c = strip_prefix_char 118 c.args.word.now (Some c.in_ok-digits.digits) c.in_ok-digits.ensures.cases (omega arith)

@@ -1,8 +1,8 @@
 use Rattle.std.proofs.Common.{sym, ◌∙◌, arith}
 use Rattle.std.proofs.lemmas.Str.Pattern.{starts_char}
 use Rattle.std.proofs.lemmas.Bool.{both_ways}
-use Rattle.lines.proofs.Names.{plus_none, number_from_parse}
-use Rattle.lines.proofs.words.number.Goals as goal
+use Rattle.base.proofs.NumeralLaws.{plus_none, number_from_parse}
+use Rattle.base.proofs.numerals.number.Goals as goal
 
 pub returns-then-starts_with : goal.returns-then-starts_with
 returns-then-starts_with c =
