@@ -51,7 +51,8 @@ impl Op {
     }
 }
 
-/// Why a request is refused, with its place where there are several.
+/// Why a request is refused, with its place where there are several. Numbers and places are those of the list of refusals,
+/// by a rule of the project; they are numbers, since people and programs in C are told them.
 #[derive(Clone, Copy, Debug, PartialEq, Eq)]
 pub enum Refusal {
     /// The pair or the character at which there is no token.
@@ -97,15 +98,14 @@ impl Refusal {
         ensures { result ≡ place_of self }
     {
         match self {
-            Refusal::Token(place) => place,
-            Refusal::Program(place) => place,
-            Refusal::Limit(place) => place,
-            Refusal::Room(place) => place,
-            Refusal::Length(place) => place,
+            Refusal::Token(place)
+            | Refusal::Program(place)
+            | Refusal::Limit(place)
+            | Refusal::Room(place)
+            | Refusal::Length(place)
+            | Refusal::Point(place) => place,
             Refusal::Off => 0,
-            Refusal::Time => 0,
-            Refusal::Stamp => 0,
-            Refusal::Point(place) => place,
+            Refusal::Time | Refusal::Stamp => 0,
         }
     }
 }

@@ -87,7 +87,8 @@ impl Draft {
         }
     }
 
-    /// Writes the code to the front of a room, if it is long enough, and says how many instructions there are.
+    /// Writes the code to the front of a lent room, four numbers to an instruction, if it is long enough, and says how many
+    /// instructions there are.
     pub(crate) fn copy_to(&self, room: &mut [u16]) -> Result<u64, Refusal>
         ensures { Copies self.now room.old result room.new }
     {

@@ -5,6 +5,7 @@ use super::draft::Draft;
 use super::instruction::Instruction;
 use syntax::node::{Node, node_at};
 
+// The nodes are lent to each call: as a field of the draft each method would have to promise that they stay.
 impl Draft {
     /// Adds the code of the expression that a node holds.
     fn put_expr(&mut self, nodes: &[u16], i: u16)

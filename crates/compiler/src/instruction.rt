@@ -47,7 +47,7 @@ impl Instruction {
     }
 }
 
-/// The instruction of four numbers; from kind 10 on a stop.
+/// The instruction of four numbers; from kind 10 on a stop. The way back has a name, `numbers`, which says what the four are.
 impl From<[u16; 4]> for Instruction {
     ghost from_gives = { λ numbers i. listed i ≡ instr_at numbers };
 
@@ -69,7 +69,7 @@ impl From<[u16; 4]> for Instruction {
     }
 }
 
-/// The word for an operation.
+/// The word for an operation, other than the sign that its `Display` writes.
 fn op_word(op: Op) -> &'static str
     ensures { result.now ≡ op_text op }
 {

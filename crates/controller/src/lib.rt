@@ -1,4 +1,6 @@
 //! The entries of a controller over lent memory: works, start, scan, cut, force and free.
+//!
+//! Their names and parameters, and that each answers a number, are a rule of the project: they are called by numbers and slices.
 #![tactic(auto)]
 
 ghost use Rattle.std.specs.Prelude.{◌≡◌};

@@ -30,7 +30,8 @@ impl Random {
         x.wrapping_mul(0x2545_f491_4f6c_dd1d)
     }
 
-    /// A number below a bound; 0 below 0. Cases that draw on are a `match` over it, and values are picked from tables.
+    /// A number below a bound; 0 below 0. Values are picked from tables; where cases draw on, or do something else each, a
+    /// `match` over the number says it most plainly.
     pub(crate) fn below(&mut self, bound: u64) -> u64
         ensures { result < max bound 1 }
     {

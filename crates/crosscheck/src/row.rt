@@ -7,7 +7,7 @@ use crate::script::Script;
 use crate::story::{Story, Trees};
 use crate::tally::{Met, Tally};
 use crate::trouble::Trouble;
-use lexer::tokenize;
+use lexer::{TOKEN_ROOM, tokenize};
 use project::play::play;
 use std::alloc::{AllocError, Global};
 use syntax::parse;
@@ -24,7 +24,7 @@ pub struct Row {
 
 /// The tree that a program's text is read as.
 fn read(text: &str) -> Option<Tree> {
-    let mut room = [0; 8192];
+    let mut room = [0; TOKEN_ROOM];
     let tokens = tokenize(text, &mut room).ok()?;
     parse(&room[..2 * tokens as usize]).ok()
 }

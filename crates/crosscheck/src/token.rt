@@ -3,7 +3,7 @@ use crate::variable::Variable;
 use base::Op;
 use std::fmt;
 
-/// A mark or a word that is always the same.
+/// A mark or a word that is always the same: those of the language once more, since this crate takes nothing of the lexer.
 #[derive(Clone, Copy, PartialEq)]
 pub enum Symbol {
     Not,

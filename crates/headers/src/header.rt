@@ -86,7 +86,7 @@ impl Header {
         Ok(())
     }
 
-    /// What a line says; `true` if it is the line `program`.
+    /// What a line says. Is it the line `program`?
     fn read_entry(&mut self, line: &mut Line<'_>) -> Result<bool, ReadError>
         ensures { Answers ⊥ result (λ b. took (b, self.new) (left line.new)) (take_entry self.old (left line.old)) }
     {
@@ -101,7 +101,7 @@ impl Header {
         Ok(false)
     }
 
-    /// A whole line, which may be blank; `true` if it is the line `program`.
+    /// A whole line, which may be blank. Is it the line `program`?
     #[tactic(auto, unfolding(lines::specs::Reading::left, crate::specs::Header::read_header_line))]
     fn read_line(&mut self, mut line: Line<'_>) -> Result<bool, ReadError>
         ensures { Reads ⊥ result (λ b. (b, self.new)) (read_header_line self.old line.entry.at line.entry.text.now) }

@@ -26,7 +26,8 @@ pub(crate) fn place(text: &[u8], index: u64) -> usize
     next.map_or(text.len(), |(place, _)| place)
 }
 
-/// Writes the tokens of a text that can be cut to the front of a room that holds them.
+/// Writes the tokens of a text that can be cut to the front of a room that holds them, as pairs of numbers in a lent room:
+/// a rule of the project. How many there are is known to the proof alone.
 pub(crate) fn write(text: &[u8], room: &mut [u16])
     requires { (n : ℕ) × Whole text.now n × (2 * n ≤ length room.old) }
     ensures { (n : ℕ) → Whole text.now n → Written text.now room.old room.new n }

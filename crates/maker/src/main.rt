@@ -6,6 +6,7 @@ use project::listing::listing;
 use std::env;
 use std::process::ExitCode;
 
+// The beginning is the player's but for the usage: what a function over both would promise, no clause can say.
 fn main(rt: HostRuntime) -> anyhow::Result<ExitCode> {
     let heap = rt.alloc();
     let Some(path) = env::args(&rt)?.nth(1) else {

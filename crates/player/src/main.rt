@@ -7,6 +7,7 @@ use std::env;
 use std::io::Read;
 use std::process::ExitCode;
 
+// The beginning is the maker's but for the usage: what a function over both would promise, no clause can say.
 fn main(rt: HostRuntime) -> anyhow::Result<ExitCode> {
     let heap = rt.alloc();
     let Some(path) = env::args(&rt)?.nth(1) else {

@@ -14,7 +14,8 @@ const OPERAND: u16 = 0;
 /// The level at which none does.
 const ANY: u16 = 5;
 
-/// Counts tokens, and writes them to a lent room as far as it reaches.
+/// Counts tokens, and writes them to a lent room as far as it reaches. The nodes that it reads are lent to each call: as a
+/// field each method would have to promise that they stay.
 #[derive(Drop)]
 struct Writer<'a> {
     room: &'a mut [u16],

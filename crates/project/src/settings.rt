@@ -45,6 +45,7 @@ pub(crate) fn changed_settings(
     ensures { IfOk result (λ v. v.items ≡ changed_from 0 64 (cells before.now) (cells shown.now)) }
 {
     let mut all = Vec::new(heap);
+    // The index names the variable, so what it showed before is read by it too: zipped, the loop would count all the same.
     for (i, value) in shown.iter().enumerate() {
         if *value != before[i] {
             all.push(Setting {

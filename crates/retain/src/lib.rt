@@ -59,6 +59,7 @@ pub fn commit(
     if writes.len() < kept + 2 {
         return Err(Refusal::Length(3));
     }
+    // The room for the writes is lent, so they are counted beside it.
     let mut count = 0;
     for write in held.next_commit(values)? {
         if write_cell(device, write) {

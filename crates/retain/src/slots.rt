@@ -7,26 +7,26 @@ ghost use Rattle.retain.specs.Entry.{upper, shape_refusal, stamp_refusal, Next};
 ghost use Rattle.retain.specs.Commit.{to_come};
 
 use super::writing::Writes;
-use base::Refusal;
+use base::{Refusal, VARIABLES};
 
 /// How many values can be kept at most.
-const MAX_KEPT: usize = 64;
+const MAX_KEPT: usize = VARIABLES;
 
 /// The first stamp that is too large to be followed by another.
 const STAMP_END: u64 = 1 << 62;
 
 /// One of the two slots.
 #[derive(Clone, Copy)]
-pub enum Slot {
+pub(crate) enum Slot {
     Lower,
     Upper,
 }
 
 /// Where a commit goes: the first cell of a slot, and its stamp.
 #[derive(Clone, Copy)]
-pub struct Target {
-    pub cell: usize,
-    pub stamp: u64,
+pub(crate) struct Target {
+    pub(crate) cell: usize,
+    pub(crate) stamp: u64,
 }
 
 impl Slot {

@@ -1,4 +1,4 @@
-//! What a tree needs, found out by going over it once.
+//! What a tree needs, found out by going over it once: three functions over nodes and a place in them, as a tree laid out in numbers has it.
 ghost use Rattle.semantics.specs.Measured.{MeasuredExpr, MeasuredSetting, Measured};
 
 use super::limits::Needs;

@@ -27,7 +27,7 @@ impl Parser {
     }
 
     /// Joins the operands that wait for operators which bind at least as tightly as one of the strength.
-    pub fn climb(&mut self, strength: u16)
+    pub(crate) fn climb(&mut self, strength: u16)
         requires { self.old.used + self.old.depth ≤ 4097 }
         ensures size { self.new.used + self.new.depth ≡ self.old.used + self.old.depth }
         ensures climbs { Climbs strength self.old self.new }
@@ -47,7 +47,7 @@ impl Parser {
     }
 
     /// Applies the nots that stand before the operand that was read last.
-    pub fn invert(&mut self)
+    pub(crate) fn invert(&mut self)
         requires { self.old.used + self.old.depth ≤ 4097 }
         ensures size { self.new.used + self.new.depth ≡ self.old.used + self.old.depth }
         ensures inverts { Inverts self.old self.new }
@@ -65,7 +65,7 @@ impl Parser {
     }
 
     /// Closes the innermost block: its statements, one after the other, with a skip at the end.
-    pub fn close(&mut self)
+    pub(crate) fn close(&mut self)
         requires { HasRoom self.old }
         ensures size { self.new.used + self.new.depth ≡ self.old.used + self.old.depth + 1 }
         ensures closes { Closes self.old self.new }

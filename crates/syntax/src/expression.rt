@@ -29,7 +29,7 @@ impl Parser {
     }
 
     /// The token where an operand is expected.
-    pub fn read_operand(&mut self, token: Token) -> Option<State>
+    pub(crate) fn read_operand(&mut self, token: Token) -> Option<State>
         requires { HasRoom self.old }
         ensures within { TakesOne self.old self.new result }
         ensures reads { Read token self.old State.Operand self.new result }
@@ -81,7 +81,7 @@ impl Parser {
     }
 
     /// The token after an operand.
-    pub fn read_operator(&mut self, token: Token) -> Option<State>
+    pub(crate) fn read_operator(&mut self, token: Token) -> Option<State>
         requires { HasRoom self.old }
         ensures within { TakesOne self.old self.new result }
         ensures reads { Read token self.old State.Operated self.new result }

@@ -13,7 +13,7 @@ use lexer::Token;
 
 impl Parser {
     /// Nothing is read yet.
-    pub fn new() -> Parser
+    pub(crate) fn new() -> Parser
         ensures { result.used + result.depth ≡ 0 }
     {
         Parser {
@@ -26,7 +26,7 @@ impl Parser {
     }
 
     /// Reads tokens as long as a program can go on so: the state then, and how many were read.
-    pub fn read_all(&mut self, tokens: &[u16]) -> (State, usize)
+    pub(crate) fn read_all(&mut self, tokens: &[u16]) -> (State, usize)
         requires fresh { self.old.used + self.old.depth ≡ 0 }
         requires few { length tokens.now / 2 ≤ 4096 }
         ensures { Halts tokens.now self.new result.0 result.1 }

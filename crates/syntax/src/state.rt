@@ -52,7 +52,7 @@ pub(crate) struct Parser {
 
 impl Parser {
     /// Puts a frame on top.
-    pub fn push(&mut self, frame: Frame)
+    pub(crate) fn push(&mut self, frame: Frame)
         requires { self.old.depth ≤ 4096 }
         ensures is { self.new ≡ pushed frame self.old }
         ensures there { self.old.depth < length self.old.frames }
@@ -62,7 +62,7 @@ impl Parser {
     }
 
     /// Adds a node, which is the last one read then.
-    pub fn add(&mut self, node: Node)
+    pub(crate) fn add(&mut self, node: Node)
         requires { self.old.used ≤ 4096 }
         ensures { Adds node self.old self.new }
     {

@@ -64,7 +64,7 @@ impl Parser {
     }
 
     /// The next token, in any state: the state after it, if a program can go on so.
-    pub fn read(&mut self, state: State, token: Token) -> Option<State>
+    pub(crate) fn read(&mut self, state: State, token: Token) -> Option<State>
         requires { total self.old state ≤ 4096 }
         ensures within { IfSome result (λ s. total self.new s ≤ total self.old state + 1) }
         ensures reads { Read token self.old state self.new result }

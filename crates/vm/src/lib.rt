@@ -13,7 +13,7 @@ pub mod stack;
 /// How many instructions a run may take.
 const BUDGET: u32 = 20000;
 
-/// How a run came to stop.
+/// How a run came to stop. No `Result`: the values that a trapped run leaves count as any others.
 #[derive(Clone, Copy, Debug, PartialEq, Eq)]
 pub enum Outcome {
     /// The code's end was reached.

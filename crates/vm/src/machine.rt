@@ -23,7 +23,9 @@ pub(crate) struct Items {
 ///
 /// While an instruction is done, `pc` is at the one after it, from which jumps are counted. Each
 /// instruction answers whether it was done: it is not where it would leave the stacks or the
-/// variables, and then nothing is changed.
+/// variables, and then nothing is changed. Done or not is a yes or no that the loop asks for; an `Option`
+/// of nothing would say no more. What is lent comes to each call by itself, and time and variables are
+/// no fields, so that a compiler keeps the rest in registers.
 #[derive(Drop)]
 pub(crate) struct Vm {
     pub(crate) pc: usize,
@@ -203,7 +205,7 @@ impl Vm {
         }
     }
 
-    /// Runs code, an instruction in four numbers, for at most `budget` instructions.
+    /// Runs code, an instruction in four numbers, for at most `budget` instructions: a loop with a budget, by a rule of the project.
     pub(crate) fn execute(
         &mut self,
         items: &mut Items,

@@ -21,9 +21,6 @@ loop-write-init c =
       going = subst (Going (apply_writes d (commit_writes n d v)) (effective_writes d (commit_writes n d v)) c.args.writes.now c.args.device.now c.args.writes.now 0) e (begun c.args.device.now c.args.writes.now (commit_writes n d v));
     }
 
-pub write_cell-requires : goal.write_cell-requires
-write_cell-requires c = (within_next 0 _ c.in-Some.ensures.steps c.loop-write.invariant.inside).0
-
 pub loop-write-preserved-then-write_cell : goal.loop-write-preserved-then-write_cell
 loop-write-preserved-then-write_cell c =
     let i = within_next 0 _ c.in-Some.ensures.steps c.loop-write.invariant.inside in

@@ -20,9 +20,6 @@ loop-write-init c =
       going = ap (λ ws. cut_writes d ws c.args.k c.args.junk) e;
     }
 
-pub write_cell_cut-requires : goal.write_cell_cut-requires
-write_cell_cut-requires c = (within_next 0 _ c.in-Some.ensures.steps c.loop-write.invariant.inside).0
-
 pub loop-write-preserved : goal.loop-write-preserved
 loop-write-preserved c =
     let i = within_next 0 _ c.in-Some.ensures.steps c.loop-write.invariant.inside in

@@ -9,8 +9,3 @@ loop-i-init c = handed_none _ _
 
 pub loop-i-preserved : goal.loop-i-preserved
 loop-i-preserved c = handed_more _ _ _ _ _ _ (omega arith) (take_more c.args.list.now c.loop-i.i (record { cell = 0; value = 0 }) (omega arith)) c.loop-i.invariant
-
-pub returns : goal.returns
-returns c =
-    let e : c.loop-i.i ≡ length c.args.list.now = omega arith in
-    record { handed = subst (λ n. writes_in c.loop-i.writes 0 n ≡ take n c.args.list.now) e c.loop-i.invariant.pairs ∙ take_all _ _ (omega arith); beyond = λ i h. c.loop-i.invariant.beyond i (omega arith) }

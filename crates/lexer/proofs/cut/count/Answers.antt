@@ -16,9 +16,6 @@ returns-in_err-ok_or c =
     let bad : c.in_err-ok_or.field-0.0 ≡ BadToken c.in-Some.place = grind (arith, c.in_err-ok_or.ensures.value, c.in_err-ok_or.ensures.ok_part) in
     rw (p.1, p.2) (c.in-Some.place, bad, refused _ _ c.next.new.self _ c.loop-place.invariant.walked _ step)
 
-pub overflow_add-count : goal.overflow_add-count
-overflow_add-count c = omega (arith, c.loop-place.invariant.count, c.loop-place.invariant.walked.front.few)
-
 pub loop-place-preserved : goal.loop-place-preserved
 loop-place-preserved c =
     let before = c.loop-place.invariant in

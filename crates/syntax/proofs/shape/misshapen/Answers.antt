@@ -4,14 +4,6 @@ use Rattle.std.specs.Slice.Iter.{chunks_rest, chunks_size}
 use Rattle.syntax.proofs.Shapes.{onward, fine, unfine}
 use Rattle.syntax.proofs.shape.misshapen.Goals as goal
 
-pub loop-at-init : goal.loop-at-init
-loop-at-init c =
-    let k = c.enumerate-at-items.ensures in
-    let i = c.into_iter-at-iterator.ensures.into_iter_gives in
-    let from : enumerate_source c.into_iter-at-iterator.result ≡ c.chunks.result = ap enumerate_source i ∙ k.source in
-    let none : enumerate_count c.into_iter-at-iterator.result ≡ 0 = ap enumerate_count i ∙ k.count in
-    record { twos = ap chunks_size from ∙ c.chunks.ensures.size; left = rw none (ap chunks_rest from ∙ c.chunks.ensures.rest); fine = λ j h. absurd (omega (arith, none)) }
-
 pub returns-then-not-is_fine : goal.returns-then-not-is_fine
 returns-then-not-is_fine c =
     let s = c.in-Some.ensures.steps in

@@ -31,15 +31,6 @@ loop-self-preserved c =
     ∙ pairs_next _ _ some _ _ _ _ c.in_ok-variable.ensures c.in_ok-value.ensures
     ∙ ap (λ l. take_pairs l (left c.value.new.self)) (sym c.in_ok-push.ensures.items)
 
-pub loop-self-smaller : goal.loop-self-smaller
-loop-self-smaller c =
-    omega (
-      arith,
-      ap word_count c.at_end.ensures.same,
-      take_falls variable_of _ _ _ c.in_ok-variable.ensures,
-      take_falls value_of _ _ _ c.in_ok-value.ensures,
-    )
-
 pub returns : goal.returns
 returns c =
     let all = ap ended c.at_end.ensures.same ∙ sym c.at_end.ensures.value ∙ c.loop-self-test.false in
