@@ -1,7 +1,7 @@
 -- Words read as numbers, names and keywords, one after another. Assumes nothing: these are definitions.
 use Rattle.std.specs.Prelude.{◌≡◌, ℕ, Bool, true, false, cond, List, [], Some, None, Ok, Err, Option, Result, nat_lt}
 use Rattle.std.specs.Str.{bytes_eq}
-pub use Rattle.base.specs.Numerals.{number_of, name_of}
+unfoldable pub use Rattle.base.specs.Numerals.{number_of, name_of}
 use Rattle.lines.specs.declared.line.Line.{Line}
 use Rattle.lines.specs.declared.words.ReadError.{ReadError}
 use Rattle.lines.specs.declared.words.ReadError.TheVariants.{Memory, At}
