@@ -3,10 +3,6 @@ use Rattle.lines.proofs.Left.{all_ends, ends_more}
 use Rattle.messages.proofs.Places.{place_begins, line_found, line_passed}
 use Rattle.messages.proofs.place.place_of_line.Goals as goal
 
-pub loop-line-init : goal.loop-line-init
-loop-line-init c =
-    rw c.into_iter-line-iterator.ensures.into_iter_gives (all_ends _ _ c.new-line-items.ensures, place_begins _ _ _ c.new-line-items.ensures)
-
 pub returns-in-Some-keyword_place : goal.returns-in-Some-keyword_place
 returns-in-Some-keyword_place c =
     sym (c.loop-line.invariant.1 ∙ line_found _ _ _ _ _ _ c.in-Some.ensures.steps c.in-Some-keyword_place.ensures)
