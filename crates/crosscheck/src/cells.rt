@@ -1,4 +1,5 @@
 //! The cells of a device, modelled plainly: two slots, each a stamp, values and the stamp again, written one cell after another.
+ghost use Rattle.std.specs.Prelude.{◌<◌};
 
 /// Where the power goes in a save: at this write, which leaves this junk.
 #[derive(Clone, Copy)]
@@ -76,28 +77,30 @@ impl Cells {
         }
     }
 
-    /// Is the second slot the current one?
-    fn second(&self) -> bool {
-        self.slots[0].stamp() < self.slots[1].stamp()
+    /// Which slot is the current one.
+    fn current(&self) -> usize
+        ensures { result < 2 }
+    {
+        usize::from(self.slots[0].stamp() < self.slots[1].stamp())
     }
 
     /// The kept values, 0 past them.
     pub(crate) fn recovered(&self) -> [u64; 64] {
-        self.slots[self.second() as usize].values
+        self.slots[self.current()].values
     }
 
     /// Saves values, while there is power; answers how many writes that takes.
     pub(crate) fn save(&mut self, values: &[u16; 64], cut: Option<Cut>) -> u64 {
-        let second = self.second();
-        let stamp = self.slots[second as usize].first.wrapping_add(1);
+        let current = self.current();
+        let stamp = self.slots[current].first.wrapping_add(1);
         let mut save = Save { writes: 0, cut };
-        let mut slot = self.slots[!second as usize];
+        let mut slot = self.slots[1 - current];
         save.write(&mut slot.first, stamp);
         for (cell, value) in slot.values.iter_mut().zip(values).take(self.kept) {
             save.write(cell, u64::from(*value));
         }
         save.write(&mut slot.last, stamp);
-        self.slots[!second as usize] = slot;
+        self.slots[1 - current] = slot;
         save.writes
     }
 }

@@ -39,22 +39,26 @@ impl Needs {
         }
     }
 
+    /// As many of each as the one or the other needs.
+    fn larger(self, other: Needs) -> Needs {
+        Needs {
+            cost: self.cost.max(other.cost),
+            height: self.height.max(other.height),
+            depth: self.depth.max(other.depth),
+        }
+    }
+
     /// One after the other.
     fn and(self, next: Needs) -> Needs {
         Needs {
             cost: self.cost.saturating_add(next.cost),
-            height: self.height.max(next.height),
-            depth: self.depth.max(next.depth),
+            ..self.larger(next)
         }
     }
 
     /// Where one of two is done, the first with a jump behind it.
     fn or(self, other: Needs) -> Needs {
-        Needs {
-            cost: self.cost.saturating_add(1).max(other.cost),
-            height: self.height.max(other.height),
-            depth: self.depth.max(other.depth),
-        }
+        self.and_one().larger(other)
     }
 
     /// While one value more is held.
