@@ -74,7 +74,8 @@ impl fmt::Display for Met {
     }
 }
 
-/// How many there are of each kind, in their order.
+/// How many there are of each kind, in their order: an array by kind, since each is printed, met or not, and a map would hold
+/// those alone that were met.
 #[derive(Drop)]
 pub struct Tally {
     counts: [u64; KINDS],
