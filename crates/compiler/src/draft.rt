@@ -37,7 +37,8 @@ impl Draft {
         ensures { result ≡ [] }
     {
         Draft {
-            code: [Instruction::Stop; ROOM],
+            // All zeros, which a machine fills in fastest; nobody reads them.
+            code: [Instruction::Push(0); ROOM],
             len: 0,
         }
     }

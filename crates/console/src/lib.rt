@@ -35,14 +35,15 @@ impl ProjectFile {
         }
     }
 
-    /// Prints the text that came of the project, or why there is none; with which status the program ends.
+    /// Prints the text that came of the project, or why there is none; with which status the program ends. Want of memory for
+    /// the message stays the error that it is, so that people are told of memory, and not of input and output.
     pub fn tell(
         &self,
         rt: &(impl Print + Eprint),
         heap: Global,
         script: &str,
         answer: Result<String, Failure>,
-    ) -> io::Result<ExitCode>
+    ) -> anyhow::Result<ExitCode>
         ensures { IfOk result (λ code. MatchResult answer (λ _. code ≡ ExitCode.SUCCESS) (λ _. code ≡ ExitCode.FAILURE)) }
     {
         match answer {

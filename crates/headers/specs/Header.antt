@@ -16,7 +16,7 @@ pub record Plan : Type 0 where
   pub program : List ℕ
 
 abbrev pub plan : Project → Plan
-plan p = record { kept = p.kept; inputs = p.inputs; firsts = p.firsts; at = p.program.at; program = p.program.text.now }
+plan p = record { kept = p.kept; inputs = p.inputs; firsts = p.firsts; at = p.at; program = p.program.now }
 
 -- nothing is said yet
 abbrev pub blank_header : Header

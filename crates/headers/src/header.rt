@@ -17,8 +17,10 @@ pub struct Project<'a> {
     pub inputs: [u8; VARIABLES],
     /// What each variable is at first.
     pub firsts: [u16; VARIABLES],
-    /// The program's text, and where it begins.
-    pub program: Line<'a>,
+    /// Where the program's text begins; with that text it is no `Line`, since whoever makes a project may say any place.
+    pub at: usize,
+    /// The program's text.
+    pub program: &'a str,
 }
 
 impl Project<'_> {
@@ -122,7 +124,8 @@ impl Header {
             kept: self.kept.unwrap_or(0),
             inputs: self.inputs.unwrap_or([0; VARIABLES]),
             firsts: self.firsts.map(|value| value.unwrap_or(0)),
-            program,
+            at: program.at,
+            program: program.text,
         }
     }
 }

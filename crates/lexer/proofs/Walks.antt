@@ -1,9 +1,9 @@
 -- What is known of a text as the walk over its tokens goes on. Assumes nothing.
-use Rattle.std.proofs.Common.{◌≡◌, ℕ, ◌+◌, ◌-◌, ◌*◌, ◌<◌, ◌≤◌, false, Option, Some, None, MatchOption, ◌⊎◌, List, [], ◌∷◌, ◌++◌, length, get_or, take, drop, set, sym, refl, ap, ◌∙◌, subst, inl, inr, append_assoc, append-nil, one-add, arith, length-append, length-drop, take-append-drop}
+use Rattle.std.proofs.Common.{◌≡◌, ℕ, ◌+◌, ◌-◌, ◌*◌, ◌<◌, ◌≤◌, false, Option, Some, None, ◌⊎◌, List, [], ◌∷◌, ◌++◌, length, get_or, take, drop, set, sym, refl, ap, ◌∙◌, subst, inl, inr, append_assoc, append-nil, one-add, arith, length-append, length-drop, take-append-drop}
 use Rattle.std.specs.List.{prefix_len}
 use Rattle.std.specs.Iterator.{Yields, SkipsThenYields}
 use Rattle.std.proofs.Math.Seq.{take-add}
-use Rattle.std.proofs.lemmas.Bool.{cases_Bool}
+use Rattle.std.proofs.lemmas.Bool.{cases_Bool, cases_lt}
 use Rattle.std.proofs.lemmas.List.{drop_more, drop-drop, take_all, drop_all, length_push, length-take-le, get_or-drop, set_at}
 use Rattle.std.proofs.lemmas.List.Sums.{prefix_len_stops, prefix_len-le-length}
 use Rattle.lexer.specs.declared.Token.{Token}
@@ -142,7 +142,7 @@ module _ (text : List ℕ) (s u : Tokens) (ts : List Token) (w : Walked text s t
 
 -- n calls of `next` passed as many tokens, or the text is broken and the walk at its end
 Reached : (text : List ℕ) → Tokens → ℕ → Type 0
-Reached text t n = ((ts : List Token) × Walked text t ts × (length ts ≡ n)) ⊎ (((p : ℕ) × Broken text p) × (length t.text.now ≤ t.place))
+Reached text t n = ((ts : List Token) × Walked text t ts × (length ts ≡ n)) ⊎ (((p : ℕ) × Broken text p) × (length t.text.now ≤ t.place) × (t.text.now ≡ text))
 
 nothing_left : (s u : Tokens) (at : ℕ) (o : Option Token) → length s.text.now ≤ s.place → Step s (Some (at, o)) u → ⊥
 nothing_left s u at o h g = omega (arith, g.1.0, g.1.1)
@@ -150,33 +150,57 @@ nothing_left s u at o h g = omega (arith, g.1.0, g.1.1)
 reach : (text : List ℕ) (s t : Tokens) (at n : ℕ) (o : Option Token) → Reached text s n → Step s (Some (at, o)) t → Reached text t (n + 1)
 unfolding Reached
 reach text s t at n o (inr end) g = absurd (nothing_left s t at o end.1 g)
-reach text s t at n None (inl r) g = inr ((at, refused text s t r.0 r.1 at g), omega (arith, g.1.2.1, ap (λ x. length x.now) g.0))
+reach text s t at n None (inl r) g = inr ((at, refused text s t r.0 r.1 at g), omega (arith, g.1.2.1, ap (λ x. length x.now) g.0), ap (λ x. x.now) g.0 ∙ r.1.same)
 reach text s t at n (Some x) (inl r) g = inl (r.0 ++ x ∷ [], taken text s t r.0 r.1 at x g, omega (arith, r.2, length_push r.0 x))
 
 along : (text : List ℕ) (xs : List (ℕ × Option Token)) (s t : Tokens) (n : ℕ) → Reached text s n → Yields Step s xs t → Reached text t (n + length xs)
 along text [] s t n r y = subst (λ u. Reached text u (n + 0)) y (subst (Reached text s) (omega arith) r)
 along text (x ∷ xs) s t n r y = subst (Reached text t) (omega arith) (along text xs y.0 t (n + 1) (reach text s y.0 x.0 n x.1 r y.1) y.2)
 
--- what `nth` answers is where the token begins
-pub landed : (text : List ℕ) (s u : Tokens) (n p : ℕ) (r : Option (ℕ × Option Token)) → Walked text s [] → SkipsThenYields Step s n r u → MatchOption r (p ≡ length text) (λ x. p ≡ x.0) → PlaceOfToken text n p × EndsIfFewer text n p
-unfolding Reached
-landed text s u n p None w ran is =
+-- the walk passed n tokens, or all of a text that has no more
+pub Passed : (text : List ℕ) → Tokens → ℕ → Type 0
+Passed text t n = Reached text t n ⊎ (((k : ℕ) × Whole text k × (k ≤ n)) × (solid_from t.text.now t.place ≡ length text))
+
+pub none_passed : (text : List ℕ) (s : Tokens) → Walked text s [] → Passed text s 0
+unfolding Passed Reached
+none_passed text s w = inl (inl ([], w, refl))
+
+ended : (text : List ℕ) (s u : Tokens) (k n : ℕ) → Reached text s k → k ≤ n → Step s None u → Passed text u n
+unfolding Passed Reached
+ended text s u k n (inr end) few g = inl (inr (end.0, omega (arith, end.1, g.1.1, ap (λ x. length x.now) g.0), ap (λ x. x.now) g.0 ∙ end.2))
+ended text s u k n (inl r) few g =
+    let same = ap (λ x. x.now) g.0 in
+    let solid : solid_from u.text.now u.place ≡ length text = ap (λ x. solid_from x u.place) same ∙ ap (solid_from s.text.now) g.1.1 ∙ g.1.0 ∙ ap length r.1.same in
+    inr ((length r.0, finished text s u r.0 r.1 g, omega (arith, r.2, few)), solid)
+
+-- `nth` passes the tokens before and the one that it answers
+pub skipped : (text : List ℕ) (s u : Tokens) (n : ℕ) (r : Option (ℕ × Option Token)) → Walked text s [] → SkipsThenYields Step s n r u → Passed text u (n + 1)
+unfolding Passed Reached
+skipped text s u n None w ran = ended text ran.1.0 u (0 + length ran.0) (n + 1) (along text ran.0 s ran.1.0 0 (inl ([], w, refl)) ran.1.1) (omega (arith, ran.2)) ran.1.2
+skipped text s u n (Some (at, o)) w ran =
     let reached = along text ran.0 s ran.1.0 0 (inl ([], w, refl)) ran.1.1 in
-    elim reached [
-      | inl r ↦
-          let all = finished text ran.1.0 u r.0 r.1 ran.1.2 in
-          ((omega arith, λ m whole few. absurd (omega (arith, same_count text _ m all whole, r.2, ran.2))), λ _ _ _. is)
-      | inr end ↦ ((omega arith, λ m whole _. absurd (refused_rightly_lem text end.0.0 m end.0.1 whole)), λ _ _ _. is)
-    ]
-landed text s u n p (Some (at, o)) w ran is =
-    let reached = along text ran.0 s ran.1.0 0 (inl ([], w, refl)) ran.1.1 in
-    elim reached [
-      | inl r ↦
-          let here = (found text ran.1.0 u r.0 r.1 at o ran.1.2).0 in
-          let P : ℕ → ℕ → Type 0 = λ i x. PlaceOfToken text i x × EndsIfFewer text i x in
-          let k : length r.0 ≡ n = omega (arith, r.2, ran.2) in
-          subst (λ i. P i p) k (subst (P (length r.0)) (sym is) here)
-      | inr end ↦ absurd (nothing_left ran.1.0 u at o end.1 ran.1.2)
+    inl (reach text ran.1.0 u at n o (subst (Reached text ran.1.0) (omega (arith, ran.2)) reached) ran.1.2)
+
+-- past n tokens the next piece begins where token n does
+pub next_place : (text : List ℕ) (t : Tokens) (n p : ℕ) → Passed text t n → p ≡ solid_from t.text.now t.place → p ≤ length t.text.now → PlaceOfToken text n p × EndsIfFewer text n p
+unfolding Passed Reached
+next_place text t n p (inr all) e h =
+    let at : p ≡ length text = e ∙ all.1 in
+    ((omega (arith, at), λ m whole few. absurd (omega (arith, same_count text _ m all.0.1 whole, all.0.2, few))), λ _ _ _. at)
+next_place text t n p (inl (inr end)) e h = (
+  (omega (arith, h, ap length end.2), λ m whole few. absurd (refused_rightly_lem text end.0.0 m end.0.1 whole)),
+  λ m whole few. absurd (refused_rightly_lem text end.0.0 m end.0.1 whole),
+)
+next_place text t n p (inl (inl r)) e h =
+    let w = r.1 in
+    let is : p ≡ solid_from text t.place = e ∙ ap (λ x. solid_from x t.place) w.same in
+    let within : p ≤ length text = omega (arith, h, ap length w.same) in
+    elim (cases_lt p (length text)) [
+      | inl l ↦ subst (λ i. PlaceOfToken text i p × EndsIfFewer text i p) r.2 (begins_at text t.place r.0 w.front p is l)
+      | inr g ↦
+          let at : p ≡ length text = omega (arith, within, g) in
+          let all : Whole text (length r.0) = record { tokens = r.0; cuts = all_passed text t.place r.0 w.front (sym is ∙ at); count = refl; few = w.front.few } in
+          ((within, λ m whole few. absurd (omega (arith, same_count text _ m all whole, r.2, few))), λ _ _ _. at)
     ]
 
 -- the next pair goes behind those that are written

@@ -22,8 +22,12 @@ pub(crate) fn place(text: &[u8], index: u64) -> usize
     ensures begins { PlaceOfToken text.now index result }
     ensures fewer { EndsIfFewer text.now index result }
 {
-    let next = Tokens::new(text).nth(index as usize);
-    next.map_or(text.len(), |(place, _)| place)
+    let mut tokens = Tokens::new(text);
+    if let Some(before) = index.checked_sub(1) {
+        tokens.nth(before as usize);
+    }
+    // The token itself is not read, however long it is.
+    tokens.solid()
 }
 
 /// Writes the tokens of a text that can be cut to the front of a room that holds them, as pairs of numbers in a lent room:

@@ -1,14 +1,13 @@
 //! The piece that a text begins with, and the token that it spells.
-ghost use Rattle.std.specs.Prelude.{◌≡◌, ℕ, ◌<◌, ◌≤◌, length, MatchOption};
+ghost use Rattle.std.specs.Prelude.{◌≡◌, ℕ, ◌<◌, ◌≤◌, ◌⊎◌, [], ◌∷◌, length, MatchOption};
 ghost use Rattle.std.specs.Char.{is_ascii_alphanumeric};
 ghost use Rattle.std.specs.List.{prefix_len};
 ghost use Rattle.std.specs.Str.Parse.{digits_value, IsNumeral};
 ghost use Rattle.lexer.specs.Token.{Spells, Varied, Stuck, First};
 ghost use Rattle.lexer.specs.Piece.{piece_length};
 
-use super::Token;
-use super::text::{mark, operator};
-use base::{VARIABLES, numerals};
+use super::{Mark, Token};
+use base::{Op, VARIABLES, numerals};
 use std::str::from_utf8;
 
 /// The number that a row of digits is, if it is one and at most 65,535.
@@ -26,29 +25,61 @@ fn name(word: &str) -> Option<u16>
     (usize::from(index) < VARIABLES).then_some(index)
 }
 
-/// The token that is always written as this word.
-fn fixed(word: &str) -> Option<Token>
-    ensures { MatchOption result ((t : Token) → Spells word.now t → Varied t) (λ t. Spells word.now t) }
+/// The token of a sign of one byte.
+fn sign(byte: u8) -> Option<Token>
+    ensures { MatchOption result ((t : Token) → Spells (byte ∷ []) t → Varied t) (λ t. Spells (byte ∷ []) t) }
 {
-    if let Some(op) = operator(word) {
-        return Some(Token::Operator(op));
+    match byte {
+        b'+' => Some(Token::Operator(Op::Add)),
+        b'-' => Some(Token::Operator(Op::Sub)),
+        b'*' => Some(Token::Operator(Op::Mul)),
+        b'/' => Some(Token::Operator(Op::Div)),
+        b'<' => Some(Token::Operator(Op::Less)),
+        b'=' => Some(Token::Operator(Op::Equal)),
+        b'(' => Some(Token::Mark(Mark::Open)),
+        b')' => Some(Token::Mark(Mark::Close)),
+        b';' => Some(Token::Mark(Mark::Semicolon)),
+        b',' => Some(Token::Mark(Mark::Comma)),
+        _ => None,
     }
-    let mark = mark(word)?;
-    Some(Token::Mark(mark))
 }
 
-/// The token that the piece spells.
+/// The token that is always written as this word, of more bytes than one. By its literals, which are told apart by their
+/// lengths first: a search among the texts of all operators and marks takes half as long again or more.
+fn fixed(word: &str) -> Option<Token>
+    ensures { MatchOption result ((t : Token) → Spells word.now t → (length word.now ≡ 1) ⊎ Varied t) (λ t. Spells word.now t) }
+{
+    match word {
+        "and" => Some(Token::Operator(Op::And)),
+        "or" => Some(Token::Operator(Op::Or)),
+        "not" => Some(Token::Mark(Mark::Not)),
+        ":=" => Some(Token::Mark(Mark::Assign)),
+        "if" => Some(Token::Mark(Mark::If)),
+        "then" => Some(Token::Mark(Mark::Then)),
+        "else" => Some(Token::Mark(Mark::Else)),
+        "repeat" => Some(Token::Mark(Mark::Repeat)),
+        "times" => Some(Token::Mark(Mark::Times)),
+        "delay" => Some(Token::Mark(Mark::Delay)),
+        "end" => Some(Token::Mark(Mark::End)),
+        _ => None,
+    }
+}
+
+/// The token that the piece spells: a sign, or what its first byte says that it can be.
 fn read_piece(piece: &[u8]) -> Option<Token>
     ensures { MatchOption result ((t : Token) → Spells piece.now t → ⊥) (λ t. Spells piece.now t) }
 {
+    if let [byte] = piece
+        && !byte.is_ascii_alphanumeric()
+    {
+        return sign(*byte);
+    }
     let word = from_utf8(piece).ok()?;
-    if let Some(token) = fixed(word) {
-        return Some(token);
+    match piece {
+        [b'0'..=b'9', ..] => number(word).map(Token::Number),
+        [b'v', ..] => name(word).map(Token::Name),
+        _ => fixed(word),
     }
-    if let Some(n) = number(word) {
-        return Some(Token::Number(n));
-    }
-    name(word).map(Token::Name)
 }
 
 /// How many letters and digits the text begins with.

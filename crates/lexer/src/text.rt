@@ -1,26 +1,10 @@
 //! How tokens are written.
 ghost use Rattle.std.specs.Prelude.{◌≡◌, Some};
-ghost use Rattle.std.specs.List.{find};
-ghost use Rattle.std.specs.Str.{bytes_eq};
-ghost use Rattle.base.specs.Texts.{operator_text};
 ghost use Rattle.lexer.specs.Token.{marking};
 ghost use Rattle.lexer.specs.Text.{token_text};
 
 use super::{Mark, Token};
-use base::Op;
 use std::fmt;
-
-/// All operators.
-const OPERATORS: [Op; 8] = [
-    Op::Add,
-    Op::Sub,
-    Op::Mul,
-    Op::Div,
-    Op::Less,
-    Op::Equal,
-    Op::And,
-    Op::Or,
-];
 
 /// All marks, in the order of their numbers.
 pub(crate) const MARKS: [Mark; 13] = [
@@ -60,21 +44,6 @@ impl Mark {
             Mark::End => "end",
         }
     }
-}
-
-// Operators and marks are found by a line each: a trait over both would be longer.
-/// The operator that is written as this word.
-pub(crate) fn operator(word: &str) -> Option<Op>
-    ensures { result ≡ find (λ op. bytes_eq (operator_text op) word.now) OPERATORS }
-{
-    OPERATORS.iter().copied().find(|op| op.text() == word)
-}
-
-/// The mark that is written as this word.
-pub(crate) fn mark(word: &str) -> Option<Mark>
-    ensures { result ≡ find (λ mark. bytes_eq (marking mark) word.now) MARKS }
-{
-    MARKS.iter().copied().find(|mark| mark.text() == word)
 }
 
 impl fmt::Display for Mark {

@@ -1,9 +1,9 @@
 //! The walk over a text, from token to token.
-ghost use Rattle.std.specs.Prelude.{◌≡◌, ◌-◌, ◌≤◌, length};
+ghost use Rattle.std.specs.Prelude.{◌≡◌, ◌-◌, ◌<◌, ◌≤◌, ◌⊎◌, length, drop, MatchOption};
 ghost use Rattle.std.specs.Iterator.{at_most};
 ghost use Rattle.std.specs.List.{prefix_len};
-ghost use Rattle.lexer.specs.Token.{blank};
-ghost use Rattle.lexer.specs.Walk.{Gives};
+ghost use Rattle.lexer.specs.Token.{blank, Stuck, First};
+ghost use Rattle.lexer.specs.Walk.{Gives, solid_from};
 
 use super::piece::first_token;
 use super::{MOST_TOKENS, Token};
@@ -46,6 +46,25 @@ impl<'a> Tokens<'a> {
             count: 0,
         }
     }
+
+    /// Where the next piece begins; the text's length where there is none.
+    pub(crate) fn solid(&self) -> usize
+        ensures within { result ≤ length self.now.text.now }
+        ensures is { result ≡ solid_from self.now.text.now self.now.place }
+    {
+        self.place + blanks(&self.text[self.place..])
+    }
+
+    /// The token at a place and its length. A piece that is one too many is not read, however long it is.
+    fn token_at(&self, place: usize) -> Option<(Token, usize)>
+        requires { place ≤ length self.now.text.now }
+        ensures { MatchOption result ((4096 ≤ self.now.count) ⊎ Stuck (drop place self.now.text.now)) (λ p. (self.now.count < 4096) × First (drop place self.now.text.now) p.0 p.1) }
+    {
+        if self.count >= MOST_TOKENS {
+            return None;
+        }
+        first_token(&self.text[place..])
+    }
 }
 
 impl<'a> Iterator for Tokens<'a> {
@@ -56,17 +75,17 @@ impl<'a> Iterator for Tokens<'a> {
     ghost remaining = { λ s. at_most (length s.text.now - s.place) };
 
     fn next(&mut self) -> Option<(usize, Option<Token>)> {
-        let place = self.place + blanks(&self.text[self.place..]);
+        let place = self.solid();
         if place == self.text.len() {
             return None;
         }
-        match first_token(&self.text[place..]) {
-            Some((token, length)) if self.count < MOST_TOKENS => {
+        match self.token_at(place) {
+            Some((token, length)) => {
                 self.place = place + length;
                 self.count += 1;
                 Some((place, Some(token)))
             }
-            _ => {
+            None => {
                 self.place = self.text.len();
                 Some((place, None))
             }

@@ -22,7 +22,7 @@ fn needs_of(heap: Global, project: &str) -> Result<Needs, Failure>
     ensures { NeedsOf project.now result }
 {
     let header = read_project(project)?;
-    let tokens = tokens_of(heap, header.program.text)?;
+    let tokens = tokens_of(heap, header.program)?;
     needs_in(tokens.as_slice())
 }
 

@@ -93,7 +93,7 @@ pub fn load(heap: Global, text: &str) -> Result<Loaded, Failure>
     ensures within { LoadsWithinNeeds text.now result }
 {
     let project = read_project(text)?;
-    let tokens = tokens_of(heap, project.program.text)?;
+    let tokens = tokens_of(heap, project.program)?;
     let code = code_of(heap, tokens.as_slice())?;
     project.check_kept().map_err(Failure::Header)?;
     Ok(Loaded {

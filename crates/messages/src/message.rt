@@ -8,18 +8,27 @@ use crate::sentence::{header_words, limit_words, mismatch, uncut_words};
 use base::Refusal;
 use headers::header::read_project;
 use lexer::{TOKEN_ROOM, token_place, tokenize};
-use lines::line::Line;
 use loading::load::Failure;
 use std::alloc::{AllocError, Global};
 
+/// The text of a program, and where it begins in its project's text.
+#[derive(Clone, Copy)]
+struct Program<'a> {
+    at: usize,
+    text: &'a str,
+}
+
 /// The text of a project's program; the whole text where its header can't be read.
-fn program_of(project: &str) -> Line<'_>
+fn program_of(project: &str) -> Program<'_>
     ensures at { result.at ≡ program_start project.now }
     ensures text { result.text.now ≡ program_text project.now }
 {
     match read_project(project) {
-        Ok(header) => header.program,
-        Err(_) => Line {
+        Ok(header) => Program {
+            at: header.at,
+            text: header.program,
+        },
+        Err(_) => Program {
             at: 0,
             text: project,
         },
@@ -43,14 +52,14 @@ impl Source<'_> {
     }
 
     /// Where something in a program stands: the end of the text where that would be past it.
-    fn place_in(&self, program: &Line<'_>, place: usize) -> usize
+    fn place_in(&self, program: &Program<'_>, place: usize) -> usize
         ensures { result ≡ min (length self.now.text.now) (program.now.at + place) }
     {
         program.at.saturating_add(place).min(self.text.len())
     }
 
     /// Where one of the `count` tokens of a program stands; past the last one, the end of the text.
-    fn place_of_token(&self, program: &Line<'_>, count: u64, index: u64) -> usize
+    fn place_of_token(&self, program: &Program<'_>, count: u64, index: u64) -> usize
         ensures { TokenStands self.now.text.now program.now.text.now program.now.at count index result }
     {
         if index < count {
@@ -71,7 +80,7 @@ impl Source<'_> {
     }
 
     /// The message of a program that is none from one of its tokens on.
-    fn mismatch_line(&self, program: &Line<'_>, index: u64) -> Result<String, AllocError>
+    fn mismatch_line(&self, program: &Program<'_>, index: u64) -> Result<String, AllocError>
         ensures { IfOk result (λ s. Mismatched self.now.file.now self.now.text.now program.now.at program.now.text.now index (string_bytes s)) }
     {
         let refusal = Refusal::Program(index);

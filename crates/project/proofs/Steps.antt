@@ -1,6 +1,6 @@
 -- What each entry of the controller does is what the story tells of the line that called it.
 use Rattle.std.proofs.Common.{◌≡◌, ℕ, ◌≤◌, min, Bool, not, ◌&&◌, eqb, List, [], ◌∷◌, map, length, get_or, take, replicate, Some, None, Ok, Err, Option, Result, sym, refl, ap, ◌∙◌, subst, ap₂, arith}
-use Rattle.std.specs.Option.{MatchOption, IsSomeAnd, option_map, option_to_list}
+use Rattle.std.specs.Option.{MatchOption, IsSomeAnd, option_to_list}
 use Rattle.std.specs.Result.{result_err}
 use Rattle.std.proofs.lemmas.List.{length-take-le, length-replicate}
 use Rattle.base.specs.Stores.{cells, region}
@@ -15,7 +15,6 @@ use Rattle.controller.specs.Entries.{EachMeaning, Follows, Started, Forced, Free
 use Rattle.scripts.specs.Script.{start, scan, cut, force, free}
 use Rattle.reports.specs.declared.report.Setting.{Setting}
 use Rattle.reports.specs.declared.report.Report.{Report}
-use Rattle.reports.specs.declared.report.Report.TheVariants.{Refused}
 use Rattle.reports.specs.Reports.{Said, said, started, scanned, refused}
 use Rattle.project.specs.Play.{line_refusal, values_from, changed_from}
 use Rattle.project.specs.Running.{Goes, GoesNoted}
@@ -31,16 +30,20 @@ lamp_is : (m : List ℕ) → (live_in m).lamp ≡ eqb (get_or m 193 0) 1
 unfolding live_in
 lamp_is m = refl
 
+-- what is told of a refusal
+abbrev pub told_as : Refusal → Said
+told_as e = refused (number_of e) (place_of e)
+
 -- what is told of an answer: its refusal, if it has one
 abbrev pub told_of : {A : Type 0} → Result A Refusal → List Said
-told_of r = map said (option_to_list (option_map Refused (result_err r)))
+told_of r = map told_as (option_to_list (result_err r))
 
--- and what `.err().map(Report::Refused)` makes of it
-pub told_so : {A : Type 0} (Q : Refusal → Report → Type 0) (r : Result A Refusal) (e : Option Refusal) (o : Option Report) → ((x : Refusal) (y : Report) → Q x y → y ≡ Refused x) →
+-- and what `.err().map(refused)` makes of it
+pub told_so : {A : Type 0} (Q : Refusal → Report → Type 0) (r : Result A Refusal) (e : Option Refusal) (o : Option Report) → ((x : Refusal) (y : Report) → Q x y → said y ≡ refused (number_of x) (place_of x)) →
     e ≡ result_err r → MatchOption e (o ≡ None) (λ x. IsSomeAnd o (Q x)) → told_of r ≡ map said (option_to_list o)
-told_so Q r None o is same h = ap (λ x. map said (option_to_list x)) (ap (option_map Refused) (sym same) ∙ sym h)
+told_so Q r None o is same h = ap (λ x. map told_as (option_to_list x)) (sym same) ∙ sym (ap (λ x. map said (option_to_list x)) h)
 told_so Q r (Some x) None is same h = absurd h
-told_so Q r (Some x) (Some y) is same h = ap (λ x. map said (option_to_list x)) (ap (option_map Refused) (sym same) ∙ ap Some (sym (is x y h)))
+told_so Q r (Some x) (Some y) is same h = ap (λ z. map told_as (option_to_list z)) (sym same) ∙ ap (λ z. z ∷ []) (sym (is x y h))
 
 -- how long the part of the room for writes is
 pub room_long : (k n : ℕ) → k ≤ 64 → n ≡ cell_count (min k 64) → length {A = ℕ} (take n (replicate 132 0)) ≡ cell_count k

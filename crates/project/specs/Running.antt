@@ -50,12 +50,12 @@ GoesNoted kept inputs firsts code line memory outside shown memory₁ shown₁ t
 -- a line was played of a project by its parts, from one player to another
 pub record Moves (p : Player) (r : Request) (q : Player) (told : List Said) : Type 0 where
   pub same : q.project ≡ p.project
-  pub goes : Goes p.project.kept p.project.inputs.now p.project.firsts.now p.project.code.now r (vec_items p.memory) p.outside p.shown (vec_items q.memory) q.outside q.shown told
+  pub goes : Goes p.project.kept p.project.inputs.now p.project.firsts.now p.project.code.now r p.memory.now p.outside p.shown q.memory.now q.outside q.shown told
 
 -- a player of a project begins as it leaves the factory, nothing said and nothing shown; or there are too many kept variables; or there is no memory
 pub record Opened (l : Parts) (p : Player) : Type 0 where
   pub same : p.project ≡ l
-  pub made : New l.kept l.firsts.now (vec_items p.memory)
+  pub made : New l.kept l.firsts.now p.memory.now
   pub unsaid : p.outside ≡ replicate 64 0
   pub unshown : p.shown ≡ replicate 64 0
 

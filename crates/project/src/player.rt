@@ -1,5 +1,5 @@
 //! A controller that plays events, and what is told of each.
-ghost use Rattle.std.specs.Prelude.{◌≡◌, ◌≤◌, vec_len};
+ghost use Rattle.std.specs.Prelude.{◌≡◌, ◌≤◌, length};
 ghost use Rattle.controller.specs.Layout.{memory_length};
 
 use crate::inputs::note_inputs;
@@ -7,9 +7,10 @@ use crate::run::{Parts, RunError};
 use crate::settings::*;
 use base::VARIABLES;
 use controller::{
-    LAMP, MAX_DEVICE, cut, device_length, force, free, memory_length, scan, start, works,
+    LAMP, MAX_DEVICE, MAX_MEMORY, cut, device_length, force, free, memory_length, scan, start,
+    works,
 };
-use reports::report::Report;
+use reports::report::{Report, refused};
 use scripts::script::{Event, Input};
 use std::alloc::{AllocError, Global};
 
@@ -18,30 +19,35 @@ use std::alloc::{AllocError, Global};
 pub(crate) struct Player<'a> {
     heap: Global,
     project: Parts<'a>,
-    memory: Vec<u64>,
+    memory: &'a mut [u64],
     outside: [u16; VARIABLES],
     shown: [u64; VARIABLES],
     ghost few: { project.kept ≤ 64 },
-    ghost whole: { vec_len memory ≡ memory_length project.kept },
+    ghost whole: { length memory.now ≡ memory_length project.kept },
 }
 
 impl<'a> Player<'a> {
+    ghost use Rattle.base.specs.Stores.{cells, region};
     ghost use Rattle.std.specs.Prelude.{map, IfOk, ◌==◌, slice_index};
     ghost use Rattle.std.specs.Option.{option_to_list};
     ghost use Rattle.scripts.specs.Script.{request, start as start_line, scan as scan_line, cut as cut_line, force as force_line, free as free_line};
     ghost use Rattle.reports.specs.Reports.{said};
     ghost use Rattle.project.specs.Running.{Opens, Moves};
 
-    /// A controller as it leaves the factory.
-    pub(crate) fn new(heap: Global, project: Parts<'a>) -> Result<Player<'a>, RunError>
+    /// A controller as it leaves the factory, over a room for the longest memory: to begin takes nothing from the heap.
+    pub(crate) fn new(
+        heap: Global,
+        project: Parts<'a>,
+        room: &'a mut [u64; MAX_MEMORY],
+    ) -> Result<Player<'a>, RunError>
         ensures { Opens project.entry result }
     {
         if project.kept > VARIABLES as u64 {
             return Err(RunError::Kept);
         }
-        let mut memory = vec![in heap; 0; memory_length(project.kept)]?;
+        let memory = &mut room[..memory_length(project.kept)];
         let firsts = project.firsts;
-        let _ = works(project.kept, firsts, memory.as_mut_slice());
+        let _ = works(project.kept, firsts, memory);
         Ok(Player {
             heap,
             project,
@@ -53,9 +59,16 @@ impl<'a> Player<'a> {
 
     /// Is the lamp lit?
     fn lamp_lit(&self) -> bool
-        ensures { result ≡ (slice_index self.now.memory.items 193 == 1) }
+        ensures { result ≡ (slice_index self.now.memory.now 193 == 1) }
     {
         self.memory[LAMP] == 1
+    }
+
+    /// The variables' values.
+    fn values(&self) -> [u64; VARIABLES]
+        ensures { cells result ≡ region self.now.memory.now 0 64 }
+    {
+        values_in(self.memory)
     }
 
     /// Power comes.
@@ -63,10 +76,10 @@ impl<'a> Player<'a> {
         ensures { IfOk result (λ o. Moves self.old start_line self.new (map said (option_to_list o))) }
     {
         let firsts = self.project.firsts;
-        if let Err(refusal) = start(self.project.kept, firsts, self.memory.as_mut_slice()) {
-            return Ok(Some(Report::Refused(refusal)));
+        if let Err(refusal) = start(self.project.kept, firsts, self.memory) {
+            return Ok(Some(refused(refusal)));
         }
-        let values = values_in(self.memory.as_slice());
+        let values = self.values();
         let settings = first_settings(self.heap, self.project.kept as usize, &values)?;
         self.shown = values;
         Ok(Some(Report::Started(settings)))
@@ -93,11 +106,11 @@ impl<'a> Player<'a> {
             code,
             &self.outside,
             elapsed,
-            self.memory.as_mut_slice(),
+            self.memory,
             &mut out,
             &mut writes[..device_length(kept)],
         ) {
-            return Ok(Some(Report::Refused(refusal)));
+            return Ok(Some(refused(refusal)));
         }
         let changed = changed_settings(self.heap, &self.shown, &out)?;
         self.shown = out;
@@ -125,28 +138,28 @@ impl<'a> Player<'a> {
             elapsed,
             at,
             junk,
-            self.memory.as_mut_slice(),
+            self.memory,
         )
         .err()
-        .map(Report::Refused)
+        .map(refused)
     }
 
     /// A point is forced.
     fn force(&mut self, point: u64, number: u64) -> Option<Report>
         ensures { Moves self.old (force_line point number) self.new (map said (option_to_list result)) }
     {
-        force(self.project.kept, point, number, self.memory.as_mut_slice())
+        force(self.project.kept, point, number, self.memory)
             .err()
-            .map(Report::Refused)
+            .map(refused)
     }
 
     /// A point is freed.
     fn free(&mut self, point: u64) -> Option<Report>
         ensures { Moves self.old (free_line point) self.new (map said (option_to_list result)) }
     {
-        free(self.project.kept, point, self.memory.as_mut_slice())
+        free(self.project.kept, point, self.memory)
             .err()
-            .map(Report::Refused)
+            .map(refused)
     }
 
     /// One event, and what is told of it.

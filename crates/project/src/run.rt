@@ -5,6 +5,7 @@ ghost use Rattle.project.specs.Running.{Runs, Writes};
 
 use crate::player::Player;
 use base::VARIABLES;
+use controller::MAX_MEMORY;
 use reports::report::{Report, render};
 use scripts::script::Event;
 use std::alloc::{AllocError, AllocFailed, Global};
@@ -54,7 +55,8 @@ pub fn run_events(
 ) -> Result<Vec<Report>, RunError>
     ensures { Runs project.now.kept project.now.inputs.now project.now.firsts.now project.now.code.now events.now result }
 {
-    let mut player = Player::new(heap, *project)?;
+    let mut memory = [0; MAX_MEMORY];
+    let mut player = Player::new(heap, *project, &mut memory)?;
     if events.len() >= MANY {
         return Err(RunError::Memory);
     }

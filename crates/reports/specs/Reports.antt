@@ -1,7 +1,6 @@
 -- What a report says, and the text of its line. Assumes nothing: these are definitions.
 use Rattle.std.specs.Prelude.{ℕ, Bool, true, false, List, [], ◌++◌, vec_items, codes, decimal}
 use Rattle.std.specs.List.{flat_map}
-use Rattle.base.specs.Refusals.{number_of, place_of}
 use Rattle.reports.specs.declared.report.Setting.{Setting}
 use Rattle.reports.specs.declared.report.Report.{Report}
 use Rattle.reports.specs.declared.report.Report.TheVariants.{Started, Scanned, Refused}
@@ -17,7 +16,7 @@ pub data Said : Type 0 where
 abbrev pub said : Report → Said
 said (Started v) = started (vec_items v)
 said (Scanned v lamp) = scanned (vec_items v) lamp
-said (Refused r) = refused (number_of r) (place_of r)
+said (Refused n p) = refused n p
 
 -- a variable and its value, as `v2 17`
 abbrev pub setting_text : Setting → List ℕ

@@ -1,7 +1,8 @@
 //! What a script's events led to, and its text.
 ghost use Rattle.std.specs.Prelude.{◌≡◌, Some, IfOk, string_bytes};
 ghost use Rattle.std.specs.List.{flat_map};
-ghost use Rattle.reports.specs.Reports.{said, setting_text, spaced, lamp_text, said_words, line_of};
+ghost use Rattle.base.specs.Refusals.{number_of, place_of};
+ghost use Rattle.reports.specs.Reports.{said, refused as refused_at, setting_text, spaced, lamp_text, said_words, line_of};
 
 use base::Refusal;
 use std::alloc::{AllocError, Global};
@@ -46,8 +47,18 @@ pub enum Report {
     Started(Vec<Setting>),
     /// A scan, after which these variables show another value, and after which the fault lamp is lit where it was not.
     Scanned { changed: Vec<Setting>, lamp: bool },
-    /// The controller refused it.
-    Refused(Refusal),
+    /// The controller refused it, with this number at this place; any two numbers can be told.
+    Refused { number: u64, place: u64 },
+}
+
+/// What is told of a refusal.
+pub fn refused(refusal: Refusal) -> Report
+    ensures { said result ≡ refused_at (number_of refusal) (place_of refusal) }
+{
+    Report::Refused {
+        number: refusal.number(),
+        place: refusal.place(),
+    }
 }
 
 /// What is told of the lamp.
@@ -71,7 +82,7 @@ impl fmt::Display for Report {
                 let lamp = lamp_words(*lamp);
                 write!(f, "scan:{changed}{lamp}")
             }
-            Report::Refused(refusal) => write!(f, "{refusal}"),
+            Report::Refused { number, place } => write!(f, "refused {number} at {place}"),
         }
     }
 }

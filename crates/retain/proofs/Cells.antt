@@ -52,7 +52,7 @@ planned_at kept t v e (suc m) l =
     ]
 
 -- the writes that are still to come: the next one and those after it, and none
-pub to_come_none : (kept : ℕ) (t : Target) (v : Store) (i : ℕ) → i ≡ kept + 2 → drop i (planned kept t v) ≡ []
+pub to_come_none : (kept : ℕ) (t : Target) (v : Store) (i : ℕ) → kept + 2 ≤ i → drop i (planned kept t v) ≡ []
 to_come_none kept t v i l = drop_all i (planned kept t v) (omega (arith, planned_length kept t v))
 
 pub next_to_come : (kept : ℕ) (t : Target) (v : Store) (i : ℕ) (w : Write) → i < kept + 2 → w ≡ slot_write kept t v i → drop i (planned kept t v) ≡ w ∷ drop (i + 1) (planned kept t v)

@@ -1,12 +1,12 @@
 -- What the functions' loops come to, as the contracts say it.
-use Rattle.std.proofs.Common.{◌≡◌, ℕ, ◌+◌, ◌-◌, ◌<◌, ◌≤◌, List, [], length, get_or, take, replicate, set, sym, ap, ◌∙◌, subst, inl, inr, append-nil, cond, eqb, length-append, length-drop, length-set, get_or-set_other, get_or-set_same, arith}
+use Rattle.std.proofs.Common.{◌≡◌, ℕ, ◌+◌, ◌-◌, ◌*◌, ◌<◌, ◌≤◌, List, [], length, get_or, take, replicate, set, sym, ap, ◌∙◌, subst, inl, inr, append-nil, cond, eqb, length-append, length-drop, length-set, get_or-set_other, get_or-set_same, arith}
 use mathlib.Core.Path.{fun_ext}
 use lib.ListN.{length-replicate}
 use borrow.Rule.Slice.PartMut.{put_mid}
 use Rattle.std.proofs.lemmas.List.{get_or_past, get_or-replicate, length-take-le}
 use Rattle.std.proofs.lemmas.Bool.{cases_lt}
 use Rattle.std.proofs.lemmas.Bool.Decides.{nat_tests}
-use Rattle.base.specs.Stores.{cells, Overwritten}
+use Rattle.base.specs.Stores.{Store, cells, Overwritten}
 use Rattle.base.proofs.StoreLaws.{get_d_set}
 use Rattle.retain.specs.declared.Write.{Write}
 use Rattle.retain.specs.Device.{cell_count, commit_writes, apply_writes, cut_writes, effective_writes, write_count, factory, came_out, recovered, Holds}
@@ -17,6 +17,22 @@ use Rattle.retain.proofs.Writes.{count_length}
 use Rattle.retain.proofs.Cells.{Going}
 use Rattle.retain.proofs.Parts.{part_written}
 use Rattle.retain.proofs.Holds.{factory_sound, commit_keeps, cut_keeps}
+
+past_factory : (kept : ℕ) (first : Store) (i : ℕ) → 2 * (kept + 2) ≤ i → factory kept first i ≡ 0
+unfolding factory
+past_factory kept first i l = grind (arith, nat_tests)
+
+-- a device whose cells are those of the factory is as it leaves there, however they were written
+pub formatted_by : (kept : ℕ) (first device : List ℕ) → length device ≡ cell_count kept → ((i : ℕ) → i < length device → get_or device i 0 ≡ factory kept (cells first) i) → Formatted kept first device
+unfolding after
+formatted_by kept first device size h = record { cells_are = same; holds = subst (λ d. Holds kept d (cells first)) (sym same) (factory_sound kept (cells first)); history = same }
+  where
+    same : cells device ≡ factory kept (cells first)
+    same =
+        fun_ext (λ i. elim (cases_lt i (length device)) [
+          | inl l ↦ h i l
+          | inr l ↦ get_or_past device i 0 l ∙ sym (past_factory kept (cells first) i (omega arith))
+        ])
 
 -- a device of zeros, after the stamps and the first values were written to it
 module _ (kept : ℕ) (first zeros ys : List ℕ) (size : length zeros ≡ cell_count kept) (n : ℕ) (filled : zeros ≡ replicate n 0) (long : length ys ≡ kept) (same : (i : ℕ) → i < kept → get_or ys i 0 ≡ get_or first i 0) where
@@ -54,10 +70,7 @@ module _ (kept : ℕ) (first zeros ys : List ℕ) (size : length zeros ≡ cell_
   made_is i = get_d_set made (kept + 1) 1 i (omega (arith, made_long)) ∙ cells_are i
 
   pub formatted : Formatted kept first (set made (kept + 1) 1)
-  unfolding after
-  formatted =
-      let e : cells (set made (kept + 1) 1) ≡ factory kept (cells first) = fun_ext made_is in
-      record { cells_are = e; holds = subst (λ d. Holds kept d (cells first)) (sym e) (factory_sound kept (cells first)); history = e }
+  formatted = formatted_by kept first (set made (kept + 1) 1) (simp length-set made_long) (λ i l. made_is i)
 
 module _ (kept : ℕ) (device values device₁ : List ℕ) where
   abbrev planned : List Write

@@ -1,8 +1,24 @@
-use Rattle.std.proofs.Common.{rules}
-use Rattle.lexer.proofs.Walks.{started, landed}
+use Rattle.std.proofs.Common.{◌≡◌, ◌+◌, arith, subst, sym}
+use Rattle.lexer.proofs.Walks.{Passed, started, none_passed, skipped, next_place}
 use Rattle.lexer.proofs.cut.place.Goals as goal
+use Rattle.lexer.proofs.cut.place.Goals.{in-Some, in_default}
+
+passed : (c : goal.After-solid) → Passed c.args.text.now c.match-checked_sub.tokens c.args.index
+passed c =
+    let text = c.args.text.now in
+    let new = c.new-tokens in
+    let begun = started text new.result new.ensures.text new.ensures.place new.ensures.count in
+    elim c.match-checked_sub.branch [
+      | in-Some w ↦
+          let rest = skipped text new.result w.nth.new.self w.in-Some.before w.nth.result begun w.nth.ensures.ran in
+          let count : w.in-Some.before + 1 ≡ c.args.index = omega (arith, w.in-Some.ensures) in
+          subst (λ n. Passed text c.match-checked_sub.tokens n) count (subst (λ t. Passed text t (w.in-Some.before + 1)) (sym w.tokens-is) rest)
+      | in_default w ↦
+          let count : 0 ≡ c.args.index = omega (arith, w.in_default.ensures) in
+          subst (λ n. Passed text c.match-checked_sub.tokens n) count (subst (λ t. Passed text t 0) (sym w.tokens-is) (none_passed text new.result begun))
+    ]
 
 pub returns : goal.returns
 returns c =
-    let told = landed c.args.text.now c.new.result c.nth-next.new.self c.args.index c.map_or.result c.nth-next.result (started _ _ c.new.ensures.text c.new.ensures.place c.new.ensures.count) c.nth-next.ensures.ran (search rules) in
+    let told = next_place c.args.text.now c.match-checked_sub.tokens c.args.index c.solid.result (passed c) c.solid.ensures.is c.solid.ensures.within in
     record { begins = told.0; fewer = told.1 }

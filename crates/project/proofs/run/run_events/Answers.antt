@@ -15,7 +15,7 @@ loop-event-init c =
     let made = c.in_ok-player.ensures in
     record {
       same = made.same;
-      told = played_none l.kept l.inputs.now l.firsts.now l.code.now c.args.events.now (vec_items c.in_ok-player.player.memory) _ _ _ made.made made.unsaid made.unshown (ap (map said) c.new-reports.ensures.items);
+      told = played_none l.kept l.inputs.now l.firsts.now l.code.now c.args.events.now c.in_ok-player.player.memory.now _ _ _ made.made made.unsaid made.unshown (ap (map said) c.new-reports.ensures.items);
     }
 
 pub loop-event-preserved : goal.loop-event-preserved
@@ -27,13 +27,13 @@ loop-event-preserved c =
     let out = vec_items c.loop-event.reports in
     let more = map said (option_to_list c.in_ok-report.field-0) in
     let goes =
-    subst (λ (x : Parts). Goes x.kept x.inputs.now x.firsts.now x.code.now (request c.event-item.result) (vec_items p.memory) p.outside p.shown (vec_items q.memory) q.outside q.shown more)
+    subst (λ (x : Parts). Goes x.kept x.inputs.now x.firsts.now x.code.now (request c.event-item.result) p.memory.now p.outside p.shown q.memory.now q.outside q.shown more)
     c.loop-event.invariant.same c.in_ok-report.ensures.goes in
     record {
       same = c.in_ok-report.ensures.same ∙ c.loop-event.invariant.same;
       told =
           played_more l.kept l.inputs.now l.firsts.now l.code.now c.args.events.now c.loop-event.event-index
-          (vec_items p.memory) p.outside p.shown (vec_items q.memory) q.outside q.shown
+          p.memory.now p.outside p.shown q.memory.now q.outside q.shown
           c.event-item.result (map said out) more (map said (vec_items c.match-branch-3.reports))
           inside c.if-events-ge-MANY.false c.event-item.is goes
           (elim c.match-branch-3.branch [
@@ -49,5 +49,5 @@ returns c =
     let l = c.args.project.now in (
       omega (arith, c.in_ok-player.player.few, ap (λ (x : Parts). x.kept) c.in_ok-player.ensures.same),
       played_all l.kept l.inputs.now l.firsts.now l.code.now c.args.events.now c.loop-event.event-index
-          (vec_items c.loop-event.player.memory) c.loop-event.player.outside c.loop-event.player.shown (map said (vec_items c.loop-event.reports)) c.loop-event-test.false c.loop-event.invariant.told,
+          c.loop-event.player.memory.now c.loop-event.player.outside c.loop-event.player.shown (map said (vec_items c.loop-event.reports)) c.loop-event-test.false c.loop-event.invariant.told,
     )

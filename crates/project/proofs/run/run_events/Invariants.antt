@@ -8,5 +8,5 @@ abbrev pub invariant-loop-event : goal.invariant-loop-event
 invariant-loop-event l = record {
   same : l.player.project ≡ l.project;
   told :
-      PlayedTo l.project.kept l.project.inputs.now l.project.firsts.now l.project.code.now l.events l.event-index (vec_items l.player.memory) l.player.outside l.player.shown (map said (vec_items l.reports));
+      PlayedTo l.project.kept l.project.inputs.now l.project.firsts.now l.project.code.now l.events l.event-index l.player.memory.now l.player.outside l.player.shown (map said (vec_items l.reports));
 }

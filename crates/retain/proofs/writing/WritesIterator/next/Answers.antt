@@ -5,7 +5,7 @@ use Rattle.retain.proofs.writing.WritesIterator.next.Goals as goal
 
 pub returns-then-self-clause-steps : goal.returns-then-self-clause-steps
 returns-then-self-clause-steps c =
-    let none = to_come_none c.args.self.now.kept c.args.self.now.target (cells c.args.self.now.values.now) c.args.self.now.next c.if-self.true in (none, none)
+    let none = to_come_none c.args.self.now.kept c.args.self.now.target (cells c.args.self.now.values.now) c.args.self.now.next (omega (arith, c.if-self.true)) in (none, none)
 
 pub returns-clause-steps : goal.returns-clause-steps
 returns-clause-steps c =
