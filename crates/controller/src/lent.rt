@@ -11,7 +11,7 @@ pub(crate) fn first_values(firsts: &[u16; VARIABLES]) -> [u64; VARIABLES]
     ensures { cells result ≡ cells firsts.now }
 {
     let mut values = [0; VARIABLES];
-    // By index into room that is there: `map` over an array takes each number through an `Option`, and a start seven times as long.
+    // By index into room that is there: `map` over an array takes each number through an `Option`, and a start six times as long.
     for (i, first) in firsts.iter().enumerate() {
         values[i] = *first as u64;
     }

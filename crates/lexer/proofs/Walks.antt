@@ -1,5 +1,5 @@
 -- What is known of a text as the walk over its tokens goes on. Assumes nothing.
-use Rattle.std.proofs.Common.{◌≡◌, ℕ, ◌+◌, ◌-◌, ◌*◌, ◌<◌, ◌≤◌, false, Option, Some, None, ◌⊎◌, List, [], ◌∷◌, ◌++◌, length, get_or, take, drop, set, sym, refl, ap, ◌∙◌, subst, inl, inr, append_assoc, append-nil, one-add, arith, length-append, length-drop, take-append-drop}
+use Rattle.std.proofs.Common.{◌≡◌, ℕ, ◌+◌, ◌-◌, ◌*◌, ◌<◌, ◌≤◌, Bool, true, false, Option, is_some, Some, None, ◌⊎◌, List, [], ◌∷◌, ◌++◌, length, get_or, take, drop, set, sym, refl, ap, ◌∙◌, subst, inl, inr, append_assoc, append-nil, one-add, arith, length-append, length-drop, take-append-drop}
 use Rattle.std.specs.List.{prefix_len}
 use Rattle.std.specs.Iterator.{Yields, SkipsThenYields}
 use Rattle.std.proofs.Math.Seq.{take-add}
@@ -180,6 +180,18 @@ skipped text s u n None w ran = ended text ran.1.0 u (0 + length ran.0) (n + 1) 
 skipped text s u n (Some (at, o)) w ran =
     let reached = along text ran.0 s ran.1.0 0 (inl ([], w, refl)) ran.1.1 in
     inl (reach text ran.1.0 u at n o (subst (Reached text ran.1.0) (omega (arith, ran.2)) reached) ran.1.2)
+
+-- where `nth` answers none there are no more tokens
+pub run_out : (text : List ℕ) (s u : Tokens) (n : ℕ) (r : Option (ℕ × Option Token)) → is_some r ≡ false → Walked text s [] → SkipsThenYields Step s n r u → PlaceOfToken text (n + 1) (length text) × EndsIfFewer text (n + 1) (length text)
+unfolding Reached
+run_out text s u n (Some x) z w ran = absurd (let y : ◌≡◌ {A = Bool} true false = z in cc)
+run_out text s u n None z w ran =
+    elim (along text ran.0 s ran.1.0 0 (inl ([], w, refl)) ran.1.1) [
+      | inl r ↦
+          let all = finished text ran.1.0 u r.0 r.1 ran.1.2 in
+          ((omega arith, λ m whole few. absurd (omega (arith, same_count text _ m all whole, r.2, ran.2, few))), λ _ _ _. refl)
+      | inr end ↦ ((omega arith, λ m whole few. absurd (refused_rightly_lem text end.0.0 m end.0.1 whole)), λ _ _ _. refl)
+    ]
 
 -- past n tokens the next piece begins where token n does
 pub next_place : (text : List ℕ) (t : Tokens) (n p : ℕ) → Passed text t n → p ≡ solid_from t.text.now t.place → p ≤ length t.text.now → PlaceOfToken text n p × EndsIfFewer text n p

@@ -24,7 +24,9 @@ pub(crate) fn place(text: &[u8], index: u64) -> usize
 {
     let mut tokens = Tokens::new(text);
     if let Some(before) = index.checked_sub(1) {
-        tokens.nth(before as usize);
+        if tokens.nth(before as usize).is_none() {
+            return text.len();
+        }
     }
     // The token itself is not read, however long it is.
     tokens.solid()

@@ -74,6 +74,8 @@ impl<'a> Iterator for Tokens<'a> {
 
     ghost remaining = { λ s. at_most (length s.text.now - s.place) };
 
+    // A hint alone: without it what a step answers goes through memory.
+    #[inline(always)]
     fn next(&mut self) -> Option<(usize, Option<Token>)> {
         let place = self.solid();
         if place == self.text.len() {
