@@ -3,10 +3,12 @@
 
 ghost use Rattle.std.specs.Prelude.{◌≡◌, IfOk, MatchResult};
 ghost use Rattle.std.specs.Option.{IfSome};
+ghost use Rattle.std.specs.IoError.{error_kind};
 
 use project::load::Failure;
 use project::message::message;
-use std::alloc::Global;
+use std::alloc::{AllocError, Global};
+use std::io::ErrorKind;
 use std::process::ExitCode;
 use std::rt::Files;
 use std::{fs, io};
@@ -16,6 +18,13 @@ use std::{fs, io};
 pub struct ProjectFile {
     pub path: String,
     pub text: String,
+}
+
+/// Want of memory for a message, in the words that an `AllocError` has by itself: an error made of one by `?` has others.
+fn no_memory(_error: AllocError) -> io::Error
+    ensures { error_kind result ≡ ErrorKind.OutOfMemory }
+{
+    io::Error::new(ErrorKind::OutOfMemory, "memory allocation failed")
 }
 
 impl ProjectFile {
@@ -35,15 +44,14 @@ impl ProjectFile {
         }
     }
 
-    /// Prints the text that came of the project, or why there is none; with which status the program ends. Want of memory for
-    /// the message stays the error that it is, so that people are told of memory, and not of input and output.
+    /// Prints the text that came of the project, or why there is none; with which status the program ends.
     pub fn tell(
         &self,
         rt: &(impl Print + Eprint),
         heap: Global,
         script: &str,
         answer: Result<String, Failure>,
-    ) -> anyhow::Result<ExitCode>
+    ) -> io::Result<ExitCode>
         ensures { IfOk result (λ code. MatchResult answer (λ _. code ≡ ExitCode.SUCCESS) (λ _. code ≡ ExitCode.FAILURE)) }
     {
         match answer {
@@ -58,7 +66,8 @@ impl ProjectFile {
                     self.text.as_str(),
                     script,
                     &failure,
-                )?;
+                )
+                .map_err(no_memory)?;
                 eprintln!(rt; "{line}")?;
                 Ok(ExitCode::FAILURE)
             }

@@ -1,5 +1,5 @@
 -- What is known of a text as the walk over its tokens goes on. Assumes nothing.
-use Rattle.std.proofs.Common.{◌≡◌, ℕ, ◌+◌, ◌-◌, ◌*◌, ◌<◌, ◌≤◌, Bool, true, false, Option, is_some, Some, None, ◌⊎◌, List, [], ◌∷◌, ◌++◌, length, get_or, take, drop, set, sym, refl, ap, ◌∙◌, subst, inl, inr, append_assoc, append-nil, one-add, arith, length-append, length-drop, take-append-drop}
+use Rattle.std.proofs.Common.{◌≡◌, ℕ, ◌+◌, ◌-◌, ◌*◌, ◌<◌, ◌≤◌, Bool, true, false, Option, is_some, Some, None, MatchOption, ◌⊎◌, List, [], ◌∷◌, ◌++◌, length, get_or, take, drop, set, sym, refl, ap, ◌∙◌, subst, inl, inr, append_assoc, append-nil, one-add, arith, length-append, length-drop, take-append-drop}
 use Rattle.std.specs.List.{prefix_len}
 use Rattle.std.specs.Iterator.{Yields, SkipsThenYields}
 use Rattle.std.proofs.Math.Seq.{take-add}
@@ -156,6 +156,28 @@ reach text s t at n (Some x) (inl r) g = inl (r.0 ++ x ∷ [], taken text s t r.
 along : (text : List ℕ) (xs : List (ℕ × Option Token)) (s t : Tokens) (n : ℕ) → Reached text s n → Yields Step s xs t → Reached text t (n + length xs)
 along text [] s t n r y = subst (λ u. Reached text u (n + 0)) y (subst (Reached text s) (omega arith) r)
 along text (x ∷ xs) s t n r y = subst (Reached text t) (omega arith) (along text xs y.0 t (n + 1) (reach text s y.0 x.0 n x.1 r y.1) y.2)
+
+-- what `nth` answers is where the token begins
+pub landed : (text : List ℕ) (s u : Tokens) (n p : ℕ) (r : Option (ℕ × Option Token)) → Walked text s [] → SkipsThenYields Step s n r u → MatchOption r (p ≡ length text) (λ x. p ≡ x.0) → PlaceOfToken text n p × EndsIfFewer text n p
+unfolding Reached
+landed text s u n p None w ran is =
+    let reached = along text ran.0 s ran.1.0 0 (inl ([], w, refl)) ran.1.1 in
+    elim reached [
+      | inl r ↦
+          let all = finished text ran.1.0 u r.0 r.1 ran.1.2 in
+          ((omega arith, λ m whole few. absurd (omega (arith, same_count text _ m all whole, r.2, ran.2))), λ _ _ _. is)
+      | inr end ↦ ((omega arith, λ m whole _. absurd (refused_rightly_lem text end.0.0 m end.0.1 whole)), λ _ _ _. is)
+    ]
+landed text s u n p (Some (at, o)) w ran is =
+    let reached = along text ran.0 s ran.1.0 0 (inl ([], w, refl)) ran.1.1 in
+    elim reached [
+      | inl r ↦
+          let here = (found text ran.1.0 u r.0 r.1 at o ran.1.2).0 in
+          let P : ℕ → ℕ → Type 0 = λ i x. PlaceOfToken text i x × EndsIfFewer text i x in
+          let k : length r.0 ≡ n = omega (arith, r.2, ran.2) in
+          subst (λ i. P i p) k (subst (P (length r.0)) (sym is) here)
+      | inr end ↦ absurd (nothing_left ran.1.0 u at o end.1 ran.1.2)
+    ]
 
 -- the walk passed n tokens, or all of a text that has no more
 pub Passed : (text : List ℕ) → Tokens → ℕ → Type 0

@@ -17,5 +17,5 @@ fn main(rt: HostRuntime) -> anyhow::Result<ExitCode> {
         return Ok(ExitCode::FAILURE);
     };
     let answer = listing(heap, project.text.as_str());
-    project.tell(&rt, heap, "", answer)
+    Ok(project.tell(&rt, heap, "", answer)?)
 }

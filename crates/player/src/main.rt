@@ -20,5 +20,5 @@ fn main(rt: HostRuntime) -> anyhow::Result<ExitCode> {
     let mut script = String::new(heap);
     rt.stdin().read_to_string(&mut script)?;
     let answer = play(heap, project.text.as_str(), script.as_str());
-    project.tell(&rt, heap, script.as_str(), answer)
+    Ok(project.tell(&rt, heap, script.as_str(), answer)?)
 }

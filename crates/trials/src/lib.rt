@@ -36,4 +36,6 @@ mod rooms;
 #[cfg(test)]
 mod script_plays;
 #[cfg(test)]
+mod telling;
+#[cfg(test)]
 mod texts;
